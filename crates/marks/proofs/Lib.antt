@@ -1,0 +1,3 @@
+pub mod Clamps
+pub mod Orders
+pub mod Parts

@@ -1,0 +1,9 @@
+// The planner's calls, each under its own name.
+pub use reach::waiting;
+pub use starts::due::backward;
+pub use starts::forward::finish;
+pub use starts::keeping::check;
+pub use tables::edits::drop;
+pub use tables::edits::open;
+pub use tables::edits::void;
+pub use tables::fault::PlanFault;

@@ -1,0 +1,3 @@
+pub mod Waiting
+pub mod Marking
+pub mod Calls

@@ -1,0 +1,5 @@
+pub mod Extremes
+pub mod Order
+pub mod Sums
+pub mod Limits
+pub mod Tests

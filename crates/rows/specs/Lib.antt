@@ -1,0 +1,5 @@
+pub mod Rows
+pub mod Limits
+pub mod Extremes
+pub mod Laws
+pub mod MaxPlus

@@ -1,0 +1,17 @@
+pub mod Chains
+pub mod Times
+pub mod Optional
+pub mod Rounds
+pub mod Settled
+pub mod Under
+pub mod Pushed
+pub mod Earliest
+pub mod Mirrored
+pub mod Latest
+pub mod Inside
+pub mod Repeats
+pub mod Walks
+pub mod Members
+pub mod Rotation
+pub mod Found
+pub mod Changes

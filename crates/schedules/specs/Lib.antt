@@ -1,0 +1,4 @@
+pub mod Plans
+pub mod Rounds
+pub mod Walks
+pub mod Theorems

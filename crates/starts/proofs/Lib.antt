@@ -1,0 +1,6 @@
+pub mod Backwards
+pub mod Broken
+pub mod Filling
+pub mod Fits
+pub mod Folds
+pub mod Widths

@@ -1,0 +1,5 @@
+// Questions about starts, finishes and due times that need no solver.
+pub mod due;
+pub mod forward;
+pub mod keeping;
+mod rows;

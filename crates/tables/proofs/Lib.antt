@@ -1,0 +1,4 @@
+pub mod Clearing
+pub mod Places
+pub mod TableRule
+pub mod Totals

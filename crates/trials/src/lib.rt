@@ -1,0 +1,5 @@
+// Tests of the planner's calls at worked values, and of each refusal.
+#[cfg(test)]
+mod kinds;
+#[cfg(test)]
+mod plans;
