@@ -7,3 +7,7 @@ pub use tables::edits::drop;
 pub use tables::edits::open;
 pub use tables::edits::void;
 pub use tables::fault::PlanFault;
+pub use times::bounds::earliest;
+pub use times::bounds::latest;
+pub use times::bounds::spread;
+pub use times::setting::set;

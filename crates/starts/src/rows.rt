@@ -13,7 +13,7 @@ use totals::choice::difference_of;
 use totals::choice::sum_of;
 
 // The time of `from` plus the lag to `to` from it.
-pub fn arrival<K: Mark>(
+pub(crate) fn arrival<K: Mark>(
     count: usize,
     table: &[Option<K::Lag>],
     totals: &[Option<K>],
@@ -27,7 +27,7 @@ pub fn arrival<K: Mark>(
 }
 
 // The time of `to` minus the lag to it from `from`.
-pub fn departure<K: Mark>(
+pub(crate) fn departure<K: Mark>(
     count: usize,
     table: &[Option<K::Lag>],
     totals: &[Option<K>],
@@ -41,7 +41,12 @@ pub fn departure<K: Mark>(
 }
 
 // Writes the start and the finish of stage k + 1.
-pub fn put_stage<K: Mark>(totals: &mut [Option<K>], k: usize, start: Option<K>, finish: Option<K>)
+pub(crate) fn put_stage<K: Mark>(
+    totals: &mut [Option<K>],
+    k: usize,
+    start: Option<K>,
+    finish: Option<K>,
+)
     requires { ⌜ 2 * k + 2 < length (now totals) ⌝ }
     ensures { λ _. ⌜ now (totals .exit) ≡ set (set (now (totals .entry)) (2 * k + 1) start) (2 * k + 2) finish ⌝ }
 {

@@ -1,19 +1,22 @@
 -- The checks of a call, in the order of their numbers: the first one missed decides.
 use mathlib.Core.Path.{_≡_}
 use mathlib.Core.List.{List, [], _∷_}
+use mathlib.Core.Logic.{_⊎_}
 use mathlib.Core.Bool.{Bool, true, false, cond, not, _&&_, _||_}
 use Prim.Native.Nat.{ℕ, zero, suc, _+_, _*_, _≤_, _<_}
 use lib.Dec.{eqb, ltb}
+use lib.ListN.{length}
 use Rattle.std.specs.declared.option.Option.{Option}
 use Rattle.std.specs.declared.option.Option.the-variants.{Some, None}
 use Rattle.std.specs.declared.result.Result.{Result}
 use Rattle.std.specs.declared.result.Result.the-variants.{Ok, Err}
 use Rattle.rows.specs.Rows.{Row, inside, Within}
-use Rattle.rows.specs.Limits.{given-limit}
+use Rattle.rows.specs.Limits.{given-limit, lag-limit}
 use Rattle.schedules.specs.Plans.{Totals}
 use Rattle.tables.specs.Tables.{events, places}
 use Rattle.tables.specs.Faults.{plan-number}
 use Rattle.tables.specs.declared.fault.PlanFault.{PlanFault}
+use Rattle.tables.specs.declared.fault.PlanFault.the-variants.{Loop}
 
 pub record Check : Type 0 where
   pub number : ℕ
@@ -32,6 +35,13 @@ first-missed (c ∷ cs) = cond (c .missed) (Some (c .number)) (first-missed cs)
 abbrev pub Ended : {A : Type 0} → List Check → (A → Type 0) → Type 0 → Result A PlanFault → Type 0
 Ended checks Q R (Ok a) = (first-missed checks ≡ None) × Q a
 Ended checks Q R (Err fault) = (first-missed checks ≡ Some (plan-number fault)) × R
+
+-- The same of a call that also needs a schedule, which is looked for last: S says that there is one, Q what then holds of the answer, W
+-- what holds of the loop's length where there is none.
+abbrev pub Solved : {A : Type 0} → List Check → Type 0 → (A → Type 0) → Type 0 → (ℕ → Type 0) → Result A PlanFault → Type 0
+Solved checks S Q R W (Ok a) = (first-missed checks ≡ None) × (S × Q a)
+Solved checks S Q R W (Err fault) =
+    ((first-missed checks ≡ Some (plan-number fault)) × R) ⊎ ((first-missed checks ≡ None) × ((S → ⊥) × ((len : ℕ) × (fault ≡ Loop len) × W len)))
 
 -- 3: the number of stages is 0 or above 31
 abbrev pub stages-missed : ℕ → Bool
@@ -52,6 +62,10 @@ event-missed n event = ltb (2 * n) event
 -- 9: a stage is 0 or above n
 abbrev pub stage-missed : ℕ → ℕ → Bool
 stage-missed n stage = eqb stage 0 || ltb n stage
+
+-- 10: the numbers are not the parts of a lag of width w
+abbrev pub lag-missed : ℕ → Row → Bool
+lag-missed w parts = not (eqb (length parts) w && inside lag-limit parts)
 
 -- 12: a total is absent or has a part beyond the limit of given totals
 abbrev pub total-missed : Option Row → Bool

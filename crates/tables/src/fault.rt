@@ -1,6 +1,7 @@
 // What a plan refuses.
 ghost use mathlib.Core.Path.{_≡_};
 ghost use Rattle.tables.specs.Faults.{plan-number, plan-layer};
+ghost use Rattle.tables.specs.declared.fault.PlanFault.the-variants.{Mark as of-mark};
 use marks::fault::Layer;
 use marks::fault::MarkFault;
 use marks::fault::MarkFaultDebug;
@@ -20,6 +21,17 @@ pub enum PlanFault {
     Mark(MarkFault),
     // 12: a given total is absent or beyond the limit of given totals
     Total,
+    // 14: no schedule exists; the length of the loop in the loop row
+    Loop(usize),
+}
+
+// A fault of the marks passes up whole.
+pub impl From<MarkFault> for PlanFault as PlanFaultFromMark {
+    ghost converts = { λ fault r. r ≡ of-mark fault };
+
+    fn from(fault: MarkFault) -> PlanFault {
+        PlanFault::Mark(fault)
+    }
 }
 
 impl PlanFault {
@@ -33,6 +45,7 @@ impl PlanFault {
             PlanFault::Event => 9,
             PlanFault::Mark(fault) => fault.number(),
             PlanFault::Total => 12,
+            PlanFault::Loop(_) => 14,
         }
     }
 

@@ -1,10 +1,16 @@
-// A walk through a worked plan of four stages: what each call is asked, and what it answers.
-use marks::fault::Layer;
+// A walk through worked plans: what each call is asked, and what it answers.
+mod minutes_plan;
+mod show;
+mod stamps_plan;
+
 use marks::kind::Mark;
 use marks::minutes::Minutes;
 use marks::minutes::MinutesLag;
 use marks::minutes::MinutesMark;
 use plan::PlanFault;
+use show::show_outcome;
+use show::show_refusal;
+use show::show_times;
 use std::io;
 use tables::layout::put_lag;
 use tables::layout::time_at;
@@ -34,43 +40,6 @@ const LAGS: [(usize, usize, i64); 10] = [
 ];
 
 const DUE: [(usize, i64); STAGES] = [(2, 14), (4, 11), (6, 16), (8, 15)];
-
-fn layer_name(layer: Layer) -> &'static str {
-    match layer {
-        Layer::Mark => "mark",
-        Layer::Plan => "plan",
-        Layer::Sheet => "sheet",
-    }
-}
-
-fn show_refusal(rt: &LibcRuntime, fault: PlanFault) -> io::Result<()> {
-    let number = fault.number();
-    let layer = layer_name(fault.layer());
-    println!(rt, "  refused: check {number} of the {layer} layer")
-}
-
-fn show_outcome(rt: &LibcRuntime, outcome: Result<(), PlanFault>) -> io::Result<()> {
-    match outcome {
-        Ok(()) => println!(rt, "  done"),
-        Err(fault) => show_refusal(rt, fault),
-    }
-}
-
-fn show_times(
-    rt: &LibcRuntime,
-    what: &str,
-    totals: &[Option<Minutes>],
-    events: &[usize],
-) -> io::Result<()> {
-    print!(rt, "  {what}:")?;
-    for event in events {
-        match time_at(totals, *event) {
-            Some(total) => print!(rt, " {}", total.part(0).unwrap_or(0))?,
-            None => print!(rt, " free")?,
-        }
-    }
-    println!(rt, "")
-}
 
 fn lay_lags(table: &mut [Option<MinutesLag>]) {
     for (to, from, minutes) in LAGS {
@@ -182,5 +151,7 @@ fn main(rt: LibcRuntime) -> io::Result<()> {
     println!(rt, "drop the lag to event 9 from event 0")?;
     show_outcome(&rt, plan::drop::<Minutes>(STAGES, &mut table, 9, 0))?;
     println!(rt, "open a plan of 32 stages")?;
-    show_outcome(&rt, plan::open::<Minutes>(32, &mut table))
+    show_outcome(&rt, plan::open::<Minutes>(32, &mut table))?;
+    minutes_plan::walk(&rt)?;
+    stamps_plan::walk(&rt)
 }

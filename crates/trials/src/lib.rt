@@ -3,3 +3,5 @@
 mod kinds;
 #[cfg(test)]
 mod plans;
+#[cfg(test)]
+mod schedules;

@@ -1,0 +1,2 @@
+pub mod Times
+pub mod Calls
