@@ -1,4 +1,5 @@
 // The planner's calls, each under its own name.
+pub use closest::closest;
 pub use reach::waiting;
 pub use starts::due::backward;
 pub use starts::forward::finish;

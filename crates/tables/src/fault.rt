@@ -21,6 +21,8 @@ pub enum PlanFault {
     Mark(MarkFault),
     // 12: a given total is absent or beyond the limit of given totals
     Total,
+    // 13: a finish or a start without a start-to-finish lag
+    Unserved,
     // 14: no schedule exists; the length of the loop in the loop row
     Loop(usize),
 }
@@ -45,6 +47,7 @@ impl PlanFault {
             PlanFault::Event => 9,
             PlanFault::Mark(fault) => fault.number(),
             PlanFault::Total => 12,
+            PlanFault::Unserved => 13,
             PlanFault::Loop(_) => 14,
         }
     }

@@ -1,5 +1,6 @@
 // A walk through worked plans: what each call is asked, and what it answers.
 mod minutes_plan;
+mod nearest_plan;
 mod show;
 mod stamps_plan;
 
@@ -153,5 +154,6 @@ fn main(rt: LibcRuntime) -> io::Result<()> {
     println!(rt, "open a plan of 32 stages")?;
     show_outcome(&rt, plan::open::<Minutes>(32, &mut table))?;
     minutes_plan::walk(&rt)?;
-    stamps_plan::walk(&rt)
+    stamps_plan::walk(&rt)?;
+    nearest_plan::walk(&rt)
 }

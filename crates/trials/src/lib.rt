@@ -2,6 +2,8 @@
 #[cfg(test)]
 mod kinds;
 #[cfg(test)]
+mod nearest;
+#[cfg(test)]
 mod plans;
 #[cfg(test)]
 mod schedules;

@@ -1,0 +1,4 @@
+pub mod Calls
+pub mod Closest
+pub mod Served
+pub mod Steps
