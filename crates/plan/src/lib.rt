@@ -1,4 +1,9 @@
-// The planner's calls, each under its own name.
+// The planner's calls, each under its own name, and what they answer in the max-plus algebra.
+pub use algebra::backward_is_residual;
+pub use algebra::closest_is_residual;
+pub use algebra::earliest_is_star;
+pub use algebra::finish_is_product;
+pub use algebra::latest_is_star;
 pub use closest::closest;
 pub use reach::waiting;
 pub use starts::due::backward;
