@@ -25,7 +25,8 @@ use Rattle.closest.specs.Served.{All-served}
 use Rattle.closest.specs.Steps.{minute, latest, finish-of, miss, largest, Moved}
 use Rattle.closest.proofs.Nearest.{begin-there, end-there, miss-is, closest}
 use Rattle.closest.proofs.One.{there, to-not-before}
-use Rattle.algebra.specs.Algebra.{Vector, sum, _⊗_, matrix-vector, vector-vector, conjugate, residual, lag-matrix, starts-of, finishes-of}
+use Rattle.rows.specs.Algebra.{Vector, sum, _⊗_, matrix-vector, vector-vector, conjugate, residual}
+use Rattle.algebra.specs.Matrices.{lag-matrix, starts-of, finishes-of}
 use Rattle.algebra.specs.Theorems.{Width, Widths, Full, Closest-is-half}
 use Rattle.algebra.proofs.Order.{sum-same}
 use Rattle.algebra.proofs.Residuals.{product-ends, back-starts, at-start, back-starts-wide, back-backward}

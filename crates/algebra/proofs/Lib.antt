@@ -4,3 +4,4 @@ pub mod Stars
 pub mod Residuals
 pub mod Serves
 pub mod Halves
+pub mod Widths

@@ -14,8 +14,8 @@ use Rattle.rows.proofs.Order.{not-before-antisym, not-before-sum}
 use Rattle.rows.proofs.Sums.{plus-comm}
 use Rattle.rows.proofs.Tests.{later-both}
 use Rattle.schedules.proofs.Optional.{Rowed, AtLeast, at-least-refl, at-least-trans, later-rowed, later-at-left, later-at-right, later-one}
-use Rattle.starts.proofs.Widths.{none-or-some}
-use Rattle.algebra.specs.Algebra.{Vector, sum, _⊕_, _≼_}
+use Rattle.rows.proofs.Options.{none-or-some}
+use Rattle.rows.specs.Algebra.{Vector, sum, _≼_}
 
 pub antisym : (w : ℕ) (p q : Option Row) → Rowed w p → Rowed w q → AtLeast p q → AtLeast q p → p ≡ q
 antisym w None None d e h k = refl

@@ -19,7 +19,7 @@ use Rattle.schedules.specs.Rounds.{round, rounds}
 use Rattle.schedules.specs.Walks.{Source}
 use Rattle.schedules.proofs.Optional.{Rowed, AtLeast, rowed-from, rowed-to, at-least-refl, at-least-trans, after-rowed, after-is}
 use Rattle.schedules.proofs.Rounds.{Sized, rounds-sized, round-covers, rounds-mono, round-source}
-use Rattle.algebra.specs.Algebra.{Matrix, identity, power, powers}
+use Rattle.rows.specs.Algebra.{Matrix, identity, power, powers}
 use Rattle.algebra.proofs.Order.{antisym, added-mono, added-comm, sum-least, sum-rowed, sum-covers, latest-unique}
 
 -- column j of I

@@ -20,8 +20,9 @@ use Rattle.schedules.proofs.Optional.{Rowed, AtLeast, rowed-from, rowed-to, aft
 use Rattle.tables.specs.Tables.{start, finish}
 use Rattle.starts.specs.Starts.{Finishes, Backward}
 use Rattle.starts.proofs.Backwards.{added-some, not-after-sum, not-after-difference, backward}
-use Rattle.starts.proofs.Widths.{none-or-some, same-some}
-use Rattle.algebra.specs.Algebra.{Vector, Matrix, sum, _⊗_, _≼_, matrix-vector, conjugate, residual, lag-matrix, starts-of, finishes-of}
+use Rattle.rows.proofs.Options.{none-or-some, same-some}
+use Rattle.rows.specs.Algebra.{Vector, Matrix, sum, _⊗_, _≼_, matrix-vector, conjugate, residual}
+use Rattle.algebra.specs.Matrices.{lag-matrix, starts-of, finishes-of}
 use Rattle.algebra.specs.Theorems.{Width, Widths, Full}
 use Rattle.algebra.proofs.Order.{added-comm, below-from, below-to, sum-same, sum-least, sum-rowed, sum-covers, sum-reached, latest-unique}
 

@@ -7,19 +7,21 @@ use native.Mathlib.Omega.{arith}
 use lib.Dec.{eqb}
 use lib.ListN.{length}
 use Rattle.std.proofs.shelf.Tests.{cond-true, cond-false, eq-eqb, ne-eqb}
+use Rattle.std.specs.Options.{mapped}
 use Rattle.std.specs.declared.option.Option.{Option}
 use Rattle.std.specs.declared.option.Option.the-variants.{Some, None}
 use Rattle.rows.specs.Extremes.{Latest-of}
 use Rattle.rows.specs.Rows.{Row, zeros, negated, NotBefore}
 use Rattle.rows.proofs.Order.{not-before-antisym}
-use Rattle.schedules.specs.Plans.{Totals, Wide, Schedulable, Earliest, FreeBelow, Latest, FreeAbove}
+use Rattle.schedules.specs.Answers.{Least-time, Greatest-time}
+use Rattle.schedules.specs.Plans.{Totals, Wide, Schedulable, Earliest, FreeBelow}
 use Rattle.schedules.specs.Rounds.{rounds, opening, Settled}
 use Rattle.schedules.proofs.Changes.{settles, opening-settles}
 use Rattle.schedules.proofs.Earliest.{settled-earliest, settled-free}
 use Rattle.schedules.proofs.Mirrored.{wide-reversed, mirrored-schedulable, mirrored-latest, mirrored-free}
 use Rattle.schedules.proofs.Optional.{AtLeast}
 use Rattle.schedules.proofs.Rounds.{settled-later}
-use Rattle.algebra.specs.Algebra.{Matrix, power, powers, Star, transpose}
+use Rattle.rows.specs.Algebra.{Matrix, power, powers, Star, transpose}
 use Rattle.algebra.proofs.Order.{latest-unique}
 use Rattle.algebra.proofs.Powers.{unit, unit-sized, Upto, power-wide, power-under, rounds-latest, rounds-powers}
 
@@ -91,30 +93,40 @@ module _ (w m : ℕ) (A : Matrix) (wide : Wide w m A) (first : 1 ≤ m) where
     from-none : (e : ℕ) → e < m → S e 0 ≡ None → FreeBelow w m A e
     from-none e e-in q = settled-free w m A wide first (m - 1) settled some p e e-in (sym (column e e-in) ∙ q)
 
-    pub earliest-entry : (e : ℕ) (r : Row) → e < m → Earliest w m A e r ↔ (S e 0 ≡ Some r)
+    earliest-entry : (e : ℕ) (r : Row) → e < m → Earliest w m A e r ↔ (S e 0 ≡ Some r)
     earliest-entry e r e-in = (λ h. go h (S e 0) refl, from-column e r e-in)
       where
         go : Earliest w m A e r → (o : Option Row) → S e 0 ≡ o → S e 0 ≡ Some r
         go h None q = absurd (not-both e r e-in h (from-none e e-in q))
         go h (Some s) q = q ∙ ap (λ (z : Row). Some z) (same-earliest e s r e-in (from-column e s e-in q) h)
 
-    pub free-entry : (e : ℕ) → e < m → FreeBelow w m A e ↔ (S e 0 ≡ None)
+    free-entry : (e : ℕ) → e < m → FreeBelow w m A e ↔ (S e 0 ≡ None)
     free-entry e e-in = (λ h. go h (S e 0) refl, from-none e e-in)
       where
         go : FreeBelow w m A e → (o : Option Row) → S e 0 ≡ o → S e 0 ≡ None
         go h None q = q
         go h (Some s) q = absurd (not-both e s e-in (from-column e s e-in q) h)
 
--- the same of the transposed matrix, for the greatest times
-module _ (w m : ℕ) (A S : Matrix) (wide : Wide w m A) (some : 1 ≤ w) (first : 1 ≤ m) (p : Schedulable w m A) (is : Star w m (transpose A) S) where
-  pub latest-entry : (e : ℕ) (r : Row) → e < m → Latest w m A e r ↔ (S e 0 ≡ Some (negated r))
-  latest-entry e r e-in =
-      let mirror = mirrored-latest w m A wide e r in
-      let t = earliest-entry w m (transpose A) (wide-reversed w m A wide) first S some (mirrored-schedulable w m A wide .0 p) is e (negated r) e-in in
-      (λ h. t .0 (mirror .0 h), λ q. mirror .1 (t .1 q))
+    pub least-entry : (e : ℕ) (o : Option Row) → e < m → Least-time w m A e o ↔ (S e 0 ≡ o)
+    least-entry e None e-in = free-entry e e-in
+    least-entry e (Some r) e-in = earliest-entry e r e-in
 
-  pub free-above-entry : (e : ℕ) → e < m → FreeAbove w m A e ↔ (S e 0 ≡ None)
-  free-above-entry e e-in =
-      let mirror = mirrored-free w m A wide e in
-      let t = free-entry w m (transpose A) (wide-reversed w m A wide) first S some (mirrored-schedulable w m A wide .0 p) is e e-in in
-      (λ h. t .0 (mirror .0 h), λ q. mirror .1 (t .1 q))
+-- the same of the transposed matrix, for the greatest times
+pub transposed-star : (w m : ℕ) (A : Matrix) → Wide w m A → 1 ≤ m → Schedulable w m A → (k : ℕ) → m ≤ suc k → Star w m (transpose A) (powers w m (transpose A) k)
+transposed-star w m A wide first p =
+    star w m (transpose A) (wide-reversed w m A wide) first (mirrored-schedulable w m A wide .0 p)
+
+module _ (w m : ℕ) (A S : Matrix) (wide : Wide w m A) (some : 1 ≤ w) (first : 1 ≤ m) (p : Schedulable w m A) (is : Star w m (transpose A) S) where
+  pub greatest-entry : (e : ℕ) (o : Option Row) → e < m → Greatest-time w m A e o ↔ (S e 0 ≡ mapped negated o)
+  greatest-entry e o e-in = go o
+    where
+      entry : (q : Option Row) → Least-time w m (transpose A) e q ↔ (S e 0 ≡ q)
+      entry q = least-entry w m (transpose A) (wide-reversed w m A wide) first S some (mirrored-schedulable w m A wide .0 p) is e q e-in
+
+      go : (o : Option Row) → Greatest-time w m A e o ↔ (S e 0 ≡ mapped negated o)
+      go None =
+          let mirror = mirrored-free w m A wide e in
+          (λ h. entry None .0 (mirror .0 h), λ q. mirror .1 (entry None .1 q))
+      go (Some r) =
+          let mirror = mirrored-latest w m A wide e r in
+          (λ h. entry (Some (negated r)) .0 (mirror .0 h), λ q. mirror .1 (entry (Some (negated r)) .1 q))

@@ -1,2 +1,2 @@
-pub mod Algebra
+pub mod Matrices
 pub mod Theorems

@@ -3,13 +3,17 @@ use mathlib.Core.Path.{_≡_}
 use mathlib.Core.Logic.{_↔_}
 use Prim.Native.Nat.{ℕ, suc, _+_, _/_, _≤_, _<_}
 use lib.ListN.{length}
-use Rattle.std.specs.declared.option.Option.the-variants.{Some, None}
+use Rattle.std.specs.Options.{mapped}
+use Rattle.std.specs.declared.option.Option.{Option}
+use Rattle.std.specs.declared.option.Option.the-variants.{Some}
 use Rattle.rows.specs.Rows.{Row, negated}
-use Rattle.schedules.specs.Plans.{Lags, Totals, Wide, Schedulable, Earliest, FreeBelow, Latest, FreeAbove}
+use Rattle.schedules.specs.Answers.{Least-time, Greatest-time}
+use Rattle.schedules.specs.Plans.{Lags, Totals, Wide, Schedulable}
 use Rattle.schedules.specs.Rounds.{rounds, opening}
 use Rattle.starts.specs.Starts.{Finishes, Backward}
 use Rattle.closest.specs.Closest.{minutes, Closest}
-use Rattle.algebra.specs.Algebra.{_⊗_, _≼_, Vector, Matrix, matrix-vector, vector-vector, powers, Star, transpose, conjugate, residual, lag-matrix, starts-of, finishes-of}
+use Rattle.rows.specs.Algebra.{_⊗_, _≼_, Vector, Matrix, matrix-vector, vector-vector, powers, Star, transpose, conjugate, residual}
+use Rattle.algebra.specs.Matrices.{lag-matrix, starts-of, finishes-of}
 
 -- every entry that is there has w parts
 abbrev pub Width : ℕ → Vector → Type 0
@@ -22,19 +26,21 @@ Widths w A = (i j : ℕ) (r : Row) → A i j ≡ Some r → length r ≡ w
 abbrev pub Full : ℕ → Vector → Type 0
 Full n x = (i : ℕ) → i < n → (r : Row) × (x i ≡ Some r)
 
--- The matrix A of the lags of a plan that has a schedule: A* is I ⊕ A ⊕ .. ⊕ A^k from k = m - 1 on,
--- and the least times are its column of the opening.
+-- k rounds of the solver from the opening are the opening's column of I ⊕ A ⊕ .. ⊕ A^k, of every plan.
+abbrev pub Rounds-are-powers : Type 0
+Rounds-are-powers =
+    (w m : ℕ) (A : Matrix) → Wide w m A → 1 ≤ m → (k e : ℕ) → e < m → rounds m A (opening w) k e ≡ powers w m A k e 0
+
+-- The matrix A of the lags of a plan that has a schedule: A* is I ⊕ A ⊕ .. ⊕ A^k from k = m - 1 on, and the least times are its column
+-- of the opening, absent where the event is free.
 pub record Earliest-is-star : Type 0 where
-  -- k rounds from the opening are the opening's column of I ⊕ A ⊕ .. ⊕ A^k, of every plan
-  pub column : (w m : ℕ) (A : Matrix) → Wide w m A → 1 ≤ m → (k e : ℕ) → e < m → rounds m A (opening w) k e ≡ powers w m A k e 0
   pub star : (w m : ℕ) (A : Matrix) → Wide w m A → 1 ≤ m → Schedulable w m A → (k : ℕ) → m ≤ suc k → Star w m A (powers w m A k)
-  pub earliest : (w m : ℕ) (A S : Matrix) → Wide w m A → 1 ≤ w → 1 ≤ m → Schedulable w m A → Star w m A S → (e : ℕ) (r : Row) → e < m → Earliest w m A e r ↔ (S e 0 ≡ Some r)
-  pub free : (w m : ℕ) (A S : Matrix) → Wide w m A → 1 ≤ w → 1 ≤ m → Schedulable w m A → Star w m A S → (e : ℕ) → e < m → FreeBelow w m A e ↔ (S e 0 ≡ None)
+  pub earliest : (w m : ℕ) (A S : Matrix) → Wide w m A → 1 ≤ w → 1 ≤ m → Schedulable w m A → Star w m A S → (e : ℕ) (o : Option Row) → e < m → Least-time w m A e o ↔ (S e 0 ≡ o)
 
 -- The greatest times are those of the transposed matrix, with every sign changed.
 pub record Latest-is-star : Type 0 where
-  pub latest : (w m : ℕ) (A S : Matrix) → Wide w m A → 1 ≤ w → 1 ≤ m → Schedulable w m A → Star w m (transpose A) S → (e : ℕ) (r : Row) → e < m → Latest w m A e r ↔ (S e 0 ≡ Some (negated r))
-  pub free : (w m : ℕ) (A S : Matrix) → Wide w m A → 1 ≤ w → 1 ≤ m → Schedulable w m A → Star w m (transpose A) S → (e : ℕ) → e < m → FreeAbove w m A e ↔ (S e 0 ≡ None)
+  pub star : (w m : ℕ) (A : Matrix) → Wide w m A → 1 ≤ m → Schedulable w m A → (k : ℕ) → m ≤ suc k → Star w m (transpose A) (powers w m (transpose A) k)
+  pub latest : (w m : ℕ) (A S : Matrix) → Wide w m A → 1 ≤ w → 1 ≤ m → Schedulable w m A → Star w m (transpose A) S → (e : ℕ) (o : Option Row) → e < m → Greatest-time w m A e o ↔ (S e 0 ≡ mapped negated o)
 
 -- The finishes are y = A ⊗ x.
 abbrev pub Finish-is-product : Type 0

@@ -1,5 +1,22 @@
 // The max-plus algebra: what the calls answer, as products, powers and residuals of matrices.
-ghost use Rattle.algebra.specs.Theorems.{Earliest-is-star, Latest-is-star, Finish-is-product, Backward-is-residual, Closest-is-residual};
+ghost use Rattle.tables.specs.Tables.{lags, times};
+ghost use Rattle.algebra.specs.Theorems.{Width, Widths, Rounds-are-powers, Earliest-is-star, Latest-is-star, Finish-is-product, Backward-is-residual, Closest-is-residual};
+use marks::kind::Mark;
+
+// Every amount of a table has the kind's width.
+pub fn amounts_have_the_width<K: Mark>(count: usize, table: &[Option<K::Lag>])
+    ensures { λ _. ⌜ Widths wide (lags amount count (now (table .entry))) ⌝ }
+{}
+
+// So has every total of a row.
+pub fn totals_have_the_width<K: Mark>(totals: &[Option<K>])
+    ensures { λ _. ⌜ Width wide (times row (now (totals .entry))) ⌝ }
+{}
+
+// The solver's rounds are sums of powers.
+pub fn rounds_are_powers()
+    ensures { λ _. ⌜ Rounds-are-powers ⌝ }
+{}
 
 // The least times are the opening's column of A*.
 pub fn earliest_is_star()

@@ -21,7 +21,7 @@ use Rattle.schedules.specs.Plans.{Lags, Totals}
 use Rattle.tables.specs.Tables.{start, finish}
 use Rattle.starts.specs.Starts.{Backward, Finished, Unbound, In-time}
 use Rattle.starts.proofs.Backwards.{added-some}
-use Rattle.starts.proofs.Widths.{none-or-some, same-some}
+use Rattle.rows.proofs.Options.{none-or-some, same-some}
 use Rattle.closest.specs.Closest.{minutes, Near, Reach, Closest}
 use Rattle.closest.specs.Served.{lag-into, lag-from, All-served}
 use Rattle.closest.specs.Steps.{minute, finish-of, miss, largest, Moved, Starts-inside, Moved-fits}

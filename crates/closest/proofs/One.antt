@@ -12,7 +12,7 @@ use Rattle.std.specs.declared.option.Option.the-variants.{Some, None}
 use Rattle.rows.specs.MaxPlus.{added}
 use Rattle.rows.specs.Rows.{Row, NotBefore, plus}
 use Rattle.starts.proofs.Backwards.{added-some}
-use Rattle.starts.proofs.Widths.{none-or-some, same-some}
+use Rattle.rows.proofs.Options.{none-or-some, same-some}
 use Rattle.closest.specs.Steps.{minute}
 
 pub one-part : (r : Row) → length r ≡ 1 → r ≡ minute (Some r) ∷ []

@@ -4,26 +4,22 @@ use mathlib.Core.Bool.{Bool, true, false, cond}
 use mathlib.Core.List.{List, [], _∷_, _++_}
 use Prim.Native.Nat.{ℕ, zero, suc, _+_, _-_, _*_, _≤_}
 use native.Mathlib.Omega.{arith}
-use lib.ListN.{length, getD}
+use lib.ListN.{length}
 use Rattle.std.proofs.shelf.Tests.{or-parts}
-use Rattle.std.specs.Options.{mapped}
 use Rattle.std.specs.declared.option.Option.{Option}
 use Rattle.std.specs.declared.option.Option.the-variants.{Some, None}
 use Rattle.rows.specs.Limits.{lag-limit, given-limit}
 use Rattle.rows.specs.Rows.{Row, Within}
 use Rattle.schedules.specs.Plans.{Lags, Totals}
+use Rattle.tables.proofs.Meanings.{table-holds, row-holds}
 use Rattle.tables.specs.Checks.{check, first-missed, row-checks, stages-missed, table-missed, row-missed, total-missed, totals-missed, All-given, Given}
-use Rattle.tables.specs.Tables.{finish, events, place, lags, times}
-use Rattle.tables.proofs.Totals.{given-more}
-use Rattle.starts.proofs.Widths.{mapped-wide, none-or-some, same-some}
+use Rattle.tables.specs.Tables.{finish, events, lags, times}
+use Rattle.checks.proofs.Totals.{given-more}
+use Rattle.rows.proofs.Options.{none-or-some, same-some}
 use Rattle.closest.specs.Closest.{Closest}
 use Rattle.closest.specs.Steps.{minute, miss, largest, Ready, Moved, Starts-inside, Moved-fits}
 use Rattle.closest.proofs.Nearest.{closest, starts-inside, moved-fits}
 use Rattle.closest.proofs.One.{there}
-
-mapped-limit : {A : Type 0} (f : A → Row) (limit : ℕ) → ((a : A) → Within limit (f a)) → (o : Option A) (r : Row) → mapped f o ≡ Some r → Within limit r
-mapped-limit f limit all None r e = none-or-some r e
-mapped-limit f limit all (Some a) r e = subst (Within limit) (same-some (f a) r e) (all a)
 
 module _ {A T : Type 0} (w : ℕ) (row : T → Row) (amount : A → Row) (wide : (t : T) → length (row t) ≡ w) (broad : (a : A) → length (amount a) ≡ w)
     (small : (a : A) → Within lag-limit (amount a)) (one : w ≡ 1) (n : ℕ) (table : List (Option A)) (due best : List (Option T))
@@ -32,13 +28,13 @@ module _ {A T : Type 0} (w : ℕ) (row : T → Row) (amount : A → Row) (wide :
   L = lags amount (events n) table
 
   wide-L : (v u : ℕ) (r : Row) → L v u ≡ Some r → length r ≡ 1
-  wide-L v u r e = mapped-wide w amount broad (getD table (place (events n) v u) None) r e ∙ one
+  wide-L v u r e = table-holds (λ q. length q ≡ w) amount broad (events n) table v u r e ∙ one
 
   limit-L : (v u : ℕ) (r : Row) → L v u ≡ Some r → Within lag-limit r
-  limit-L v u r e = mapped-limit amount lag-limit small (getD table (place (events n) v u) None) r e
+  limit-L v u r e = table-holds (Within lag-limit) amount small (events n) table v u r e
 
   wide-times : (totals : List (Option T)) (v : ℕ) (r : Row) → times row totals v ≡ Some r → length r ≡ 1
-  wide-times totals v r e = mapped-wide w row wide (getD totals v None) r e ∙ one
+  wide-times totals v r e = row-holds (λ q. length q ≡ w) row wide totals v r e ∙ one
 
   given : (j : ℕ) → 1 ≤ j → j ≤ n → Given (times row due (finish j))
   given j low high =

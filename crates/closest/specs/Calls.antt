@@ -8,8 +8,8 @@ use Rattle.std.specs.declared.result.Result.{Result}
 use Rattle.rows.specs.Limits.{lag-limit, total-limit}
 use Rattle.rows.specs.Rows.{Row}
 use Rattle.marks.specs.Meaning.{clamped}
-use Rattle.marks.specs.declared.minutes.Minutes.{Minutes}
-use Rattle.marks.specs.declared.minutes.MinutesLag.{MinutesLag}
+use Rattle.minutes.specs.declared.Minutes.{Minutes}
+use Rattle.minutes.specs.declared.MinutesLag.{MinutesLag}
 use Rattle.tables.specs.Checks.{check, Ended, row-checks, totals-missed}
 use Rattle.tables.specs.Tables.{events, lags, times}
 use Rattle.tables.specs.declared.fault.PlanFault.{PlanFault}

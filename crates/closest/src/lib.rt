@@ -8,12 +8,13 @@ ghost use Rattle.closest.specs.Calls.{Closest-ends, minutes-row, minutes-amoun
 ghost use Rattle.closest.specs.Closest.{Closest};
 ghost use Rattle.closest.specs.Steps.{minute, finish-of, miss, largest, Starts-inside, Moved-fits, Moved, Ready};
 use crate::served::check_served;
+use checks::check_rows;
 use marks::kind::Mark;
-use marks::minutes::Minutes;
-use marks::minutes::MinutesLag;
-use marks::minutes::MinutesMark;
+use minutes::Minutes;
+use minutes::MinutesLag;
+use minutes::MinutesMark;
+use rows::MOST_EVENTS;
 use starts::due::backward;
-use tables::checks::check_rows;
 use tables::fault::PlanFault;
 use tables::layout::lag_at;
 use tables::layout::time_at;
@@ -21,9 +22,6 @@ use totals::choice::later_of;
 use totals::choice::sum_of;
 
 mod served;
-
-// The most events that a plan has.
-const MOST_EVENTS: usize = 63;
 
 // The first part of a total, and 0 where there is none.
 fn minute_of<K: Mark>(total: Option<K>) -> i64

@@ -41,7 +41,10 @@ fn is_served<K: Mark>(stages: usize, table: &[Option<K::Lag>], k: usize) -> bool
     has_lag_into::<K>(stages, table, 2 * k + 2) & has_lag_from::<K>(stages, table, 2 * k + 1)
 }
 
-pub fn check_served<K: Mark>(stages: usize, table: &[Option<K::Lag>]) -> Result<(), PlanFault>
+pub(crate) fn check_served<K: Mark>(
+    stages: usize,
+    table: &[Option<K::Lag>],
+) -> Result<(), PlanFault>
     requires { ⌜ stages ≤ 31 ⌝ }
     ensures { λ r. ⌜ Ended (check 13 (unserved stages (lags amount (events stages) (now (table .entry)))) ∷ []) (λ _. All-served stages (lags amount (events stages) (now (table .entry)))) (Unit {0}) r ⌝ }
 {

@@ -1,9 +1,3 @@
-pub mod Backing
 pub mod Cells
-pub mod Finding
 pub mod Raising
 pub mod Rounding
-pub mod Settling
-pub mod Tracing
-pub mod Turning
-pub mod Views

@@ -12,9 +12,9 @@ use Rattle.std.specs.declared.option.Option.the-variants.{Some, None}
 use Rattle.rows.specs.Rows.{Row}
 use Rattle.schedules.specs.Plans.{Lags, Totals}
 use Rattle.schedules.specs.Rounds.{round}
-use Rattle.schedules.specs.Walks.{Source}
+use Rattle.schedules.specs.Walks.{Source, kept-at}
 use Rattle.tables.specs.Tables.{times}
-use Rattle.network.specs.Steps.{Raised, Tells, Went-round, kept-at}
+use Rattle.network.specs.Steps.{Raised, Tells, Went-round}
 
 -- a write at n leaves the totals before n, and so the kept events
 

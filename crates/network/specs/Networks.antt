@@ -1,14 +1,12 @@
--- What a network offers a solver, and what the solver promises, in the words of schedules.
+-- What a network offers a solver.
 use mathlib.Core.Path.{_≡_}
-use mathlib.Core.List.{List}
 use Prim.Native.Nat.{ℕ, _<_, _≤_}
-use lib.ListN.{take, drop}
 use Rattle.std.specs.declared.option.Option.{Option}
 use Rattle.std.specs.declared.option.Option.the-variants.{Some, None}
 use Rattle.rows.specs.Rows.{Row, plus, Within}
 use Rattle.rows.specs.Limits.{total-limit}
 use Rattle.marks.specs.Meaning.{Total-of}
-use Rattle.schedules.specs.Plans.{Lags, Totals, Wide, Schedulable, Loop, Earliest, FreeBelow}
+use Rattle.schedules.specs.Plans.{Lags, Totals, Wide}
 use Rattle.schedules.specs.Rounds.{rounds, opening, everywhere}
 
 -- A total that means x, followed along the lag that stands there, if any: nothing where none stands, else the sum, or nothing exactly
@@ -33,17 +31,3 @@ pub record Net (w m : ℕ) (L : Lags) : Type 0 where
   pub few : m ≤ 63
   pub wide : Wide w m L
   pub inside : Stays-inside w m L
-
--- No loop, and the row of events as it was; or a loop in the row's first places, and the other places as they were.
-abbrev pub Loop-sought : ℕ → ℕ → Lags → List ℕ → List ℕ → Option ℕ → Type 0
-Loop-sought w m L row after None = Schedulable w m L × (after ≡ row)
-Loop-sought w m L row after (Some len) = (len ≤ m) × Loop w m L (take len after) × (drop len after ≡ drop len row)
-
--- The least time of an event; none where some schedule has it before any row.
-abbrev pub Least-time : ℕ → ℕ → Lags → ℕ → Option Row → Type 0
-Least-time w m L e None = FreeBelow w m L e
-Least-time w m L e (Some r) = Earliest w m L e r
-
--- So for each of m events.
-abbrev pub Least-times : ℕ → ℕ → Lags → Totals → Type 0
-Least-times w m L x = (e : ℕ) → e < m → Least-time w m L e (x e)

@@ -1,7 +1,3 @@
-// Networks of lags, and the solver that finds their loops and least times.
-pub mod find;
+// Networks of lags, and the round that a solver repeats.
 pub mod net;
-mod rounds;
-pub mod settle;
-mod trace;
-pub mod view;
+pub mod rounds;

@@ -5,9 +5,6 @@ ghost use Rattle.schedules.specs.Plans.{Lags};
 ghost use Rattle.network.specs.Networks.{Followed, Net};
 use marks::kind::Mark;
 
-// The most events that the solver has room for.
-pub const MOST_EVENTS: usize = 63;
-
 // Everything is promised of sound networks only.
 pub trait Network {
     type Kind: Mark;

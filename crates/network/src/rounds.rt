@@ -6,7 +6,8 @@ ghost use Rattle.std.specs.Options.{mapped};
 ghost use Rattle.std.specs.declared.option.Option.the-variants.{None};
 ghost use Rattle.tables.specs.Tables.{times};
 ghost use Rattle.network.specs.Networks.{Net, Sums-inside};
-ghost use Rattle.network.specs.Steps.{beats, kept-at, Raised, Went-round};
+ghost use Rattle.network.specs.Steps.{beats, Raised, Went-round};
+ghost use Rattle.schedules.specs.Walks.{kept-at};
 use crate::net::Network;
 use marks::kind::Mark;
 use std::cmp::Ordering;
@@ -54,7 +55,7 @@ fn raise<N: Network>(
 
 // One round over every event, and an event that it changed, if any. The place of each such event, from `base` on, has the event that its
 // total came from.
-pub(crate) fn go_round<N: Network>(
+pub fn go_round<N: Network>(
     net: &N,
     count: usize,
     totals: &[Option<N::Kind>],
@@ -82,7 +83,7 @@ pub(crate) fn go_round<N: Network>(
 }
 
 // The first totals of one row, put into another.
-pub(crate) fn copy_totals<K: Mark>(count: usize, from: &[Option<K>], to: &mut [Option<K>])
+pub fn copy_totals<K: Mark>(count: usize, from: &[Option<K>], to: &mut [Option<K>])
     requires { ⌜ count ≤ length (now from) ⌝ ∗ ⌜ count ≤ length (now to) ⌝ }
     ensures { λ _. ⌜ ((v : ℕ) → v < count → getD (now (to .exit)) v None ≡ getD (now (from .entry)) v None) ⌝ }
 {
@@ -92,7 +93,7 @@ pub(crate) fn copy_totals<K: Mark>(count: usize, from: &[Option<K>], to: &mut [O
 }
 
 // The first totals of a row, all alike.
-pub(crate) fn fill_totals<K: Mark>(count: usize, totals: &mut [Option<K>], total: Option<K>)
+pub fn fill_totals<K: Mark>(count: usize, totals: &mut [Option<K>], total: Option<K>)
     requires { ⌜ count ≤ length (now totals) ⌝ }
     ensures { λ _. ⌜ ((v : ℕ) → v < count → getD (now (totals .exit)) v None ≡ total) ⌝ }
 {

@@ -3,18 +3,18 @@ use mathlib.Core.Path.{_≡_, refl, sym, ap, subst, _∙_}
 use mathlib.Core.Bool.{Bool, true, false, _&&_, not}
 use mathlib.Core.List.{List, [], _∷_}
 use mathlib.Core.Logic.{_⊎_, inl, inr, _↔_}
-use Prim.Native.Nat.{ℕ, _/_, _%_, _^_, _≤_, _<_}
+use Prim.Native.Nat.{ℕ, _≤_, _<_}
 use native.Mathlib.Omega.{arith}
 use lib.Count.{ones}
 use lib.Dec.{eqb}
 use lib.ListN.{getD}
-use Rattle.std.proofs.shelf.Tests.{ne-eqb, eqb-true, eqb-false, not-true, and-parts, and-from, not-from-false, cases-lt, true≢false}
+use Rattle.std.proofs.shelf.Tests.{ne-eqb, eqb-false, not-true, and-parts, and-from, not-from-false, cases-lt}
 use Rattle.std.specs.Orderings.{Decides}
 use Rattle.rows.specs.Rows.{Row}
 use Rattle.schedules.specs.Plans.{Lags, Chain}
-use Rattle.reach.specs.Marking.{Marked, Reached, digit, mask-of}
-use Rattle.reach.specs.Waiting.{Reaches, Waits, Bit, Counts, Waiting}
-use Rattle.reach.proofs.Masks.{count-of, bit-of, bit-past, ones-of, counts}
+use Rattle.reach.specs.Marking.{Reached, digit, mask-of}
+use Rattle.reach.specs.Waiting.{Waits, Bit, Counts, Waiting}
+use Rattle.reach.proofs.Masks.{bit-of, bit-past, ones-of, counts}
 
 abbrev others : List Bool → ℕ → ℕ → Bool
 others marks e v = not (eqb v e) && getD marks v false

@@ -1,18 +1,18 @@
 -- A mask built bit by bit: its bits and how many are set.
 use mathlib.Core.Path.{_≡_, refl, sym, ap, subst, _∙_}
-use mathlib.Core.Bool.{Bool, true, false, cond}
-use mathlib.Core.Logic.{_⊎_, inl, inr, _↔_}
+use mathlib.Core.Bool.{Bool, true, false}
+use mathlib.Core.Logic.{_⊎_, inl, inr}
 use Prim.Native.Nat.{ℕ, zero, suc, _+_, _-_, _*_, _/_, _%_, _^_, _≤_, _<_}
-use native.Mathlib.Nat.{add-mul-div-right, add-mul-mod-self-right, div-eq-of-lt, mul-assoc, mul-comm}
+use native.Mathlib.Nat.{add-mul-div-right, add-mul-mod-self-right, div-eq-of-lt, mul-assoc}
 use native.Mathlib.Omega.{arith}
 use lib.Bits.{bitOr}
 use lib.Count.{ones, ones-cat}
 use lib.Pow.{pow-pos, pow-add}
 use Rattle.std.specs.Orderings.{Decides}
 use Rattle.std.proofs.shelf.Bits.{or-shifted, or-comm, pow-below}
-use Rattle.std.proofs.shelf.Tests.{cases-lt, cases-bool, true≢false}
+use Rattle.std.proofs.shelf.Tests.{cases-lt, true≢false}
 use Rattle.reach.specs.Marking.{digit, mask-of}
-use Rattle.reach.specs.Waiting.{Bit, Counts, nothing, counted, passed}
+use Rattle.reach.specs.Waiting.{Counts, nothing, counted, passed}
 
 abbrev pub count-of : (ℕ → Bool) → ℕ → ℕ
 count-of f zero = 0

@@ -8,9 +8,10 @@ ghost use Rattle.std.specs.Options.{Cases};
 ghost use Rattle.tables.specs.Tables.{lags};
 ghost use Rattle.reach.specs.Calls.{Waiting-ends};
 ghost use Rattle.reach.specs.Marking.{Marked, Unmarked, Followed, Reached, mask-of};
+use checks::check_event;
+use checks::check_table;
 use marks::kind::Mark;
-use tables::checks::check_event;
-use tables::checks::check_table;
+use rows::MOST_EVENTS;
 use tables::fault::PlanFault;
 use tables::layout::lag_at;
 
@@ -26,8 +27,8 @@ fn follow<K: Mark>(count: usize, table: &[Option<K::Lag>], from: usize, reached:
     }
 }
 
-// The first event that is reached and not yet followed.
-fn first_unfollowed(count: usize, reached: &[bool], followed: &[bool]) -> Option<usize>
+// An event that is reached and not yet followed.
+fn unfollowed(count: usize, reached: &[bool], followed: &[bool]) -> Option<usize>
     requires { ⌜ count ≤ 63 ⌝ ∗ ⌜ length (now reached) ≡ 63 ⌝ ∗ ⌜ length (now followed) ≡ 63 ⌝ }
     ensures { λ r. ⌜ Cases r ((u : ℕ) → u < count → Marked (now (reached .entry)) u → Marked (now (followed .entry)) u) (λ u. (u < count) × Marked (now (reached .entry)) u × Unmarked (now (followed .entry)) u) ⌝ }
 {
@@ -40,15 +41,15 @@ fn first_unfollowed(count: usize, reached: &[bool], followed: &[bool]) -> Option
 }
 
 // The events that a chain from `event` reaches.
-fn reach<K: Mark>(count: usize, table: &[Option<K::Lag>], event: usize) -> [bool; 63]
+fn reach<K: Mark>(count: usize, table: &[Option<K::Lag>], event: usize) -> [bool; MOST_EVENTS]
     requires { ⌜ count ≤ 63 ⌝ ∗ ⌜ event < count ⌝ }
     ensures { λ r. ⌜ Reached count (lags amount count (now (table .entry))) event r ⌝ }
 {
-    let mut reached = [false; 63];
-    let mut followed = [false; 63];
+    let mut reached = [false; MOST_EVENTS];
+    let mut followed = [false; MOST_EVENTS];
     followed[event] = true;
     follow::<K>(count, table, event, &mut reached);
-    while let Some(u) = first_unfollowed(count, &reached, &followed) {
+    while let Some(u) = unfollowed(count, &reached, &followed) {
         followed[u] = true;
         follow::<K>(count, table, u, &mut reached);
     }

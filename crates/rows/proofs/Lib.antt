@@ -3,3 +3,4 @@ pub mod Order
 pub mod Sums
 pub mod Limits
 pub mod Tests
+pub mod Options

@@ -1,5 +1,5 @@
 -- The relations between the limits.
-use Prim.Native.Nat.{ℕ, _+_, _*_, _^_, _≤_, _<_}
+use Prim.Native.Nat.{ℕ, _+_, _*_, _≤_}
 use native.Mathlib.Nat.{mul-le-mul-right}
 use native.Mathlib.Omega.{arith}
 use Rattle.rows.specs.Limits.{lag-limit, total-limit, given-limit, most-events, Relations}

@@ -1,15 +1,15 @@
 -- The order of rows.
-use mathlib.Core.Path.{_≡_, refl, sym, ap, ap₂, _∙_, subst}
-use mathlib.Core.List.{List, [], _∷_}
+use mathlib.Core.Path.{_≡_, refl, sym, ap, _∙_, subst}
+use mathlib.Core.List.{[], _∷_}
 use mathlib.Core.Logic.{_⊎_, inl, inr}
-use Prim.Native.Nat.{ℕ, zero, suc, _+_, _≤_, _<_}
+use Prim.Native.Nat.{ℕ, _+_, _≤_}
 use native.Mathlib.Omega.{arith}
 use lib.ListN.{length}
-use lib.IntN.{ℤ, pos, _+ℤ_, negℤ}
-use lib.Signed.{ltZ, _<ℤ_, _≤ℤ_}
+use lib.IntN.{ℤ, _+ℤ_, negℤ}
+use lib.Signed.{_≤ℤ_}
 use Rattle.std.proofs.shelf.Signed.{ints, by-ltZ}
 use Rattle.rows.specs.Rows.{Row, zeros, plus, minus, negated, Before, NotBefore}
-use Rattle.rows.proofs.Sums.{cons≡, length-plus, length-zeros, plus-zeros, plus-comm, minus-plus, plus-minus, length-negated, length-minus, negated-negated}
+use Rattle.rows.proofs.Sums.{cons≡, length-plus, length-zeros, plus-zeros, plus-comm, plus-minus, length-negated, negated-negated}
 
 pub before-irrefl : (x : Row) → NotBefore x x
 before-irrefl [] h = h

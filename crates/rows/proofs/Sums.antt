@@ -1,14 +1,14 @@
 -- Sums and opposites of rows.
 use mathlib.Core.Path.{_≡_, refl, sym, ap, ap₂, _∙_}
-use mathlib.Core.List.{List, [], _∷_}
-use Prim.Native.Nat.{ℕ, zero, suc, _+_, _≤_, _<_}
+use mathlib.Core.List.{[], _∷_}
+use Prim.Native.Nat.{ℕ, zero, suc, _+_, _≤_}
 use native.Mathlib.Omega.{arith}
 use lib.ListN.{length}
-use lib.IntN.{ℤ, pos, _+ℤ_, negℤ, +ℤ-assoc, +ℤ-comm, +ℤ-idl, +ℤ-idr, +ℤ-invr}
-use lib.Signed.{leZ, _<ℤ_, _≤ℤ_}
+use lib.IntN.{ℤ, pos, _+ℤ_, negℤ, +ℤ-assoc, +ℤ-comm, +ℤ-idr, +ℤ-invr}
+use lib.Signed.{leZ, _≤ℤ_}
 use Rattle.std.proofs.shelf.Signed.{ints}
-use mathlib.Core.Bool.{true, _&&_}
-use Rattle.std.proofs.shelf.Tests.{and-parts, and-from}
+use mathlib.Core.Bool.{true}
+use Rattle.std.proofs.shelf.Tests.{and-parts}
 use Rattle.rows.specs.Rows.{Row, zeros, plus, minus, negated, Within, bounded, inside}
 
 pub cons≡ : {x y : ℤ} {xs ys : Row} → x ≡ y → xs ≡ ys → _≡_ {A = Row} (x ∷ xs) (y ∷ ys)

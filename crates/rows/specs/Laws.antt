@@ -1,7 +1,7 @@
 -- Rows of one width are an ordered abelian group.
 use mathlib.Core.Path.{_≡_}
 use mathlib.Core.Logic.{_⊎_}
-use Prim.Native.Nat.{ℕ, _+_, _≤_}
+use Prim.Native.Nat.{ℕ, _+_}
 use lib.ListN.{length}
 use Rattle.rows.specs.Rows.{Row, zeros, plus, negated, Before, NotBefore, Within}
 

@@ -3,3 +3,4 @@ pub mod Limits
 pub mod Extremes
 pub mod Laws
 pub mod MaxPlus
+pub mod Algebra

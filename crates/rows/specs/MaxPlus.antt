@@ -1,5 +1,5 @@
 -- The max-plus algebra on optional rows: an absent row is neutral for the later of two and absorbs in a sum.
-use mathlib.Core.List.{List, [], _∷_}
+use mathlib.Core.List.{[], _∷_}
 use mathlib.Core.Bool.{Bool, true, false, cond}
 use lib.Signed.{ltZ}
 use Rattle.std.specs.declared.option.Option.{Option}

@@ -7,9 +7,9 @@ use lib.ListN.{length, getD, take, drop}
 use Rattle.rows.specs.Rows.{Row, zeros, Before}
 use Rattle.schedules.specs.Plans.{Lags, Wide, Chain, Distinct, Loop, Totals}
 use Rattle.schedules.specs.Rounds.{Changed}
-use Rattle.schedules.specs.Walks.{Traced, Walked, backs, Apart}
+use Rattle.schedules.specs.Walks.{Traced, backs, Apart}
 use Rattle.schedules.proofs.Rounds.{Sized}
-use Rattle.schedules.proofs.Walks.{walk-below, closed-walk, walk-distinct}
+use Rattle.schedules.proofs.Walks.{Walked, walk-below, closed-walk, walk-distinct}
 use Rattle.schedules.proofs.Rotation.{turned-at}
 use Rattle.schedules.proofs.Repeats.{pigeonhole}
 

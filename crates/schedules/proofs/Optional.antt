@@ -2,21 +2,21 @@
 use mathlib.Core.Path.{_≡_, refl, sym, ap, _∙_, subst}
 use mathlib.Core.Logic.{_⊎_, inl, inr}
 use Prim.Native.Nat.{ℕ}
-use native.Mathlib.Omega.{arith}
 use lib.ListN.{length}
 use Rattle.std.specs.declared.option.Option.{Option}
 use Rattle.std.specs.declared.option.Option.the-variants.{Some, None}
 use Rattle.rows.specs.Rows.{Row, plus, Before, NotBefore}
+use Rattle.rows.proofs.Options.{none-or-some, same-some}
 use Rattle.rows.proofs.Sums.{length-plus}
 use Rattle.rows.proofs.Order.{Compared, less, same, more, compared, before-irrefl, not-before-trans, then-before}
 use Rattle.rows.specs.MaxPlus.{later-of, later, added}
 use Rattle.rows.proofs.Tests.{Later, second, first, later-is, later-left, later-right, later-both}
 
 pub some-inj : {x y : Row} → _≡_ {A = Option Row} (Some x) (Some y) → x ≡ y
-some-inj e = cc
+some-inj {x} {y} e = same-some x y e
 
 pub some-none : {x : Row} → _≡_ {A = Option Row} (Some x) None → ⊥
-some-none e = let z : _≡_ {A = ℕ} 0 1 = cc in omega arith
+some-none {x} e = none-or-some x (sym e)
 
 -- w parts, where there is a row
 abbrev pub Rowed : ℕ → Option Row → Type 0

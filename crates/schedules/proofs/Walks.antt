@@ -14,9 +14,13 @@ use Rattle.rows.proofs.Order.{raised-before}
 use Rattle.schedules.specs.Plans.{Lags, Wide, Chain, Has, Distinct, Totals}
 use Rattle.rows.specs.MaxPlus.{added}
 use Rattle.schedules.specs.Rounds.{rounds, Changed}
-use Rattle.schedules.specs.Walks.{Source, Traced, Walked, backs, Apart}
+use Rattle.schedules.specs.Walks.{Source, Traced, backs, Apart}
 use Rattle.schedules.proofs.Optional.{AtLeast, Below, below-under, below-not-at-least, after-is, rowed-to, some-inj}
 use Rattle.schedules.proofs.Rounds.{Sized, rounds-sized, rounds-mono, round-covers, changed-rises}
+
+-- p 0, p 1, .., p d are events met walking back, p 0 in round n, p 1 in round n - 1, and so on
+abbrev pub Walked : (ℕ → ℕ → ℕ) → ℕ → (ℕ → ℕ) → ℕ → Type 0
+Walked from n p d = (i : ℕ) → i < d → p (suc i) ≡ from (n - i) (p i)
 
 -- The chain walked back from p c, over i events, with its sum: what is added between rounds j and g.
 record Stretch (m : ℕ) (L : Lags) (S : Totals) (p : ℕ → ℕ) (c g i j : ℕ) : Type 0 where

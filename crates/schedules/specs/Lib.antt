@@ -1,4 +1,5 @@
 pub mod Plans
+pub mod Answers
 pub mod Rounds
 pub mod Walks
 pub mod Theorems

@@ -1,8 +1,10 @@
 -- What a plan's lags ask of its events: schedules, chains and loops, the least and the greatest time of an event.
 use mathlib.Core.Path.{_≡_}
+use mathlib.Core.Bool.{cond, _&&_}
 use mathlib.Core.List.{List, [], _∷_}
 use mathlib.Core.Logic.{_⊎_}
 use Prim.Native.Nat.{ℕ, _<_}
+use lib.Dec.{eqb}
 use lib.ListN.{length}
 use Rattle.std.specs.declared.option.Option.{Option}
 use Rattle.std.specs.declared.option.Option.the-variants.{Some}
@@ -20,6 +22,10 @@ Totals = ℕ → Option Row
 -- the same lags, each the other way round
 abbrev pub reversed : Lags → Lags
 reversed L v u = L u v
+
+-- the lags L with a to v from u in stead of what stood there
+abbrev pub with-lag : Lags → ℕ → ℕ → Row → Lags
+with-lag L v u a t s = cond (eqb t v && eqb s u) (Some a) (L t s)
 
 -- every amount between the first m events has w parts
 abbrev pub Wide : ℕ → ℕ → Lags → Type 0

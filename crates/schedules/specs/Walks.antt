@@ -2,6 +2,7 @@
 use mathlib.Core.Path.{_≡_}
 use mathlib.Core.List.{List, [], _∷_}
 use Prim.Native.Nat.{ℕ, zero, suc, _+_, _-_, _<_}
+use lib.ListN.{getD}
 use Rattle.std.specs.declared.option.Option.{Option}
 use Rattle.std.specs.declared.option.Option.the-variants.{Some}
 use Rattle.rows.specs.Rows.{Row, plus}
@@ -22,10 +23,6 @@ abbrev pub Traced : ℕ → Lags → Totals → ℕ → (ℕ → ℕ → ℕ) �
 Traced m L S n from =
     (k v : ℕ) → k < n → v < m → Changed m L S k v → Source m L (rounds m L S k) v (from (suc k) v) (rounds m L S (suc k) v)
 
--- p 0, p 1, .., p d are events met walking back, p 0 in round n, p 1 in round n - 1, and so on
-abbrev pub Walked : (ℕ → ℕ → ℕ) → ℕ → (ℕ → ℕ) → ℕ → Type 0
-Walked from n p d = (i : ℕ) → i < d → p (suc i) ≡ from (n - i) (p i)
-
 -- the walk from v in round n
 abbrev pub walk : (ℕ → ℕ → ℕ) → ℕ → ℕ → ℕ → ℕ
 walk from n v zero = v
@@ -39,3 +36,7 @@ backs p c (suc i) = p (c + suc i) ∷ backs p c i
 -- the first d events met are all different
 abbrev pub Apart : (ℕ → ℕ) → ℕ → Type 0
 Apart p d = (i j : ℕ) → i < j → j < d → p i ≡ p j → ⊥
+
+-- the events kept from place `base` on
+abbrev pub kept-at : List ℕ → ℕ → ℕ → ℕ
+kept-at sources base v = getD sources (base + v) 0

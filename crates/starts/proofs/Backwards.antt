@@ -1,20 +1,19 @@
 -- The earliest of the differences are the greatest starts in time.
 use mathlib.Core.Path.{_≡_, refl, sym, ap, ap₂, subst, _∙_}
-use mathlib.Core.Logic.{_⊎_, inl, inr, _↔_}
+use mathlib.Core.Logic.{_↔_}
 use Prim.Native.Nat.{ℕ, _≤_}
-use native.Mathlib.Omega.{arith}
 use lib.ListN.{length}
 use Rattle.std.specs.declared.option.Option.{Option}
 use Rattle.std.specs.declared.option.Option.the-variants.{Some, None}
 use Rattle.rows.specs.Extremes.{Earliest-of, Among}
 use Rattle.rows.specs.MaxPlus.{added, taken}
 use Rattle.rows.specs.Rows.{Row, plus, minus, Before, NotBefore}
-use Rattle.rows.proofs.Order.{not-before-plus, not-before-trans, not-before-same, before-plus}
-use Rattle.rows.proofs.Sums.{minus-plus, plus-minus, length-plus, length-minus, length-negated}
+use Rattle.rows.proofs.Order.{not-before-plus, before-plus}
+use Rattle.rows.proofs.Sums.{minus-plus, length-minus}
 use Rattle.schedules.specs.Plans.{Lags, Totals}
 use Rattle.tables.specs.Tables.{start, finish}
 use Rattle.starts.specs.Starts.{In-time, Unbound, Backward}
-use Rattle.starts.proofs.Widths.{none-or-some, same-some}
+use Rattle.rows.proofs.Options.{none-or-some, same-some}
 
 -- a sum of two that are there
 pub added-some : (x y : Option Row) (q : Row) → added x y ≡ Some q → (a : Row) × (b : Row) × (x ≡ Some a) × (y ≡ Some b) × (plus a b ≡ q)

@@ -10,7 +10,7 @@ use Rattle.std.proofs.shelf.Lists.{length-set, getD-set-same, getD-set-other, d
 use Rattle.std.proofs.shelf.Tests.{cases-lt}
 use Rattle.std.specs.Options.{mapped}
 use Rattle.std.specs.declared.option.Option.{Option}
-use Rattle.std.specs.declared.option.Option.the-variants.{Some, None}
+use Rattle.std.specs.declared.option.Option.the-variants.{None}
 use Rattle.rows.specs.Rows.{Row}
 use Rattle.tables.specs.Tables.{start, finish, times}
 

@@ -1,10 +1,10 @@
 -- One stage more in a loop that keeps the latest or the earliest.
 use mathlib.Core.Path.{_≡_, sym, ap, subst, _∙_}
-use Prim.Native.Nat.{ℕ, suc, _+_, _≤_}
+use Prim.Native.Nat.{ℕ, suc, _+_}
 use native.Mathlib.Numerals.{add-one}
 use lib.ListN.{length}
 use Rattle.std.specs.declared.option.Option.{Option}
-use Rattle.std.specs.declared.option.Option.the-variants.{Some, None}
+use Rattle.std.specs.declared.option.Option.the-variants.{Some}
 use Rattle.rows.specs.Extremes.{Latest-of, Earliest-of, Among}
 use Rattle.rows.specs.MaxPlus.{later, earlier}
 use Rattle.rows.specs.Rows.{Row}

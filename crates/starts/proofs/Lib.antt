@@ -1,5 +1,4 @@
 pub mod Backwards
-pub mod Broken
 pub mod Filling
 pub mod Fits
 pub mod Folds

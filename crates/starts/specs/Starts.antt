@@ -1,15 +1,15 @@
 -- Starts, finishes and due times, over the start-to-finish lags: the lags to a finish of any stage from a start of any stage.
 use mathlib.Core.Path.{_≡_}
 use mathlib.Core.Logic.{_↔_}
-use Prim.Native.Nat.{ℕ, _≤_, _<_}
+use Prim.Native.Nat.{ℕ, _≤_}
 use lib.ListN.{length}
 use Rattle.std.specs.declared.option.Option.{Option}
 use Rattle.std.specs.declared.option.Option.the-variants.{Some, None}
-use Rattle.rows.specs.Rows.{Row, Before, NotBefore}
+use Rattle.rows.specs.Rows.{Row, NotBefore}
 use Rattle.rows.specs.MaxPlus.{added}
 use Rattle.rows.specs.Extremes.{Latest-of, Among}
 use Rattle.schedules.specs.Plans.{Lags, Totals}
-use Rattle.tables.specs.Tables.{start, finish, place}
+use Rattle.tables.specs.Tables.{start, finish}
 
 -- v finishes at the latest of start plus lag over the start-to-finish lags into it, or has no finish if there is none
 abbrev pub Finished : ℕ → Lags → Totals → ℕ → Option Row → Type 0
@@ -37,13 +37,3 @@ pub record Backward (w n : ℕ) (L : Lags) (d y : Totals) : Type 0 where
   pub in-time : In-time n L d y
   pub greatest : (x : Totals) → ((v : ℕ) (r : Row) → x v ≡ Some r → length r ≡ w) → In-time n L d x → (k : ℕ) (r s : Row) → 1 ≤ k → k ≤ n → y (start k) ≡ Some r → x (start k) ≡ Some s → NotBefore r s
   pub free : (k : ℕ) → 1 ≤ k → k ≤ n → (y (start k) ≡ None) ↔ Unbound n L (start k)
-
--- the times x break the lag to v from u: v comes before u plus the lag
-abbrev pub Breaks : Lags → Totals → ℕ → ℕ → Type 0
-Breaks L x v u = (t : Row) × (s : Row) × (x v ≡ Some t) × (added (x u) (L v u) ≡ Some s) × Before t s
-
--- the first broken lag in the order of the table, or none
-abbrev pub First-broken : ℕ → Lags → Totals → Option (ℕ × ℕ) → Type 0
-First-broken m L x None = (v u : ℕ) → v < m → u < m → Breaks L x v u → ⊥
-First-broken m L x (Some p) =
-    ((p .0 < m) × (p .1 < m)) × (Breaks L x (p .0) (p .1) × ((v u : ℕ) → v < m → u < m → place m v u < place m (p .0) (p .1) → Breaks L x v u → ⊥))

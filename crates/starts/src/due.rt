@@ -11,9 +11,9 @@ ghost use Rattle.starts.specs.Calls.{Backward-ends};
 ghost use Rattle.starts.specs.Starts.{Backward};
 use crate::rows::departure;
 use crate::rows::put_stage;
+use checks::check_rows;
+use checks::check_totals;
 use marks::kind::Mark;
-use tables::checks::check_rows;
-use tables::checks::check_totals;
 use tables::fault::PlanFault;
 use totals::choice::earlier_of;
 

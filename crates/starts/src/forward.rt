@@ -3,15 +3,15 @@ ghost use mathlib.Core.Path.{_≡_};
 ghost use Prim.Native.Nat.{_≤_, _<_};
 ghost use lib.ListN.{drop, length};
 ghost use Rattle.std.specs.Options.{mapped};
-ghost use Rattle.tables.specs.Checks.{All-given, Laid};
+ghost use Rattle.tables.specs.Checks.{All-given};
 ghost use Rattle.tables.specs.Tables.{events, lags, times};
 ghost use Rattle.starts.specs.Calls.{Finish-ends};
 ghost use Rattle.starts.specs.Starts.{Finished, Finishes};
 use crate::rows::arrival;
 use crate::rows::put_stage;
+use checks::check_rows;
+use checks::check_totals;
 use marks::kind::Mark;
-use tables::checks::check_rows;
-use tables::checks::check_totals;
 use tables::fault::PlanFault;
 use totals::choice::later_of;
 

@@ -1,5 +1,4 @@
 // Questions about starts, finishes and due times that need no solver.
 pub mod due;
 pub mod forward;
-pub mod keeping;
-mod rows;
+pub mod rows;

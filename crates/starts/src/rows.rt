@@ -13,7 +13,7 @@ use totals::choice::difference_of;
 use totals::choice::sum_of;
 
 // The time of `from` plus the lag to `to` from it.
-pub(crate) fn arrival<K: Mark>(
+pub fn arrival<K: Mark>(
     count: usize,
     table: &[Option<K::Lag>],
     totals: &[Option<K>],

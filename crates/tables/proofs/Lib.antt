@@ -1,4 +1,3 @@
-pub mod Clearing
+pub mod Meanings
 pub mod Places
 pub mod TableRule
-pub mod Totals

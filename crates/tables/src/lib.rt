@@ -1,5 +1,3 @@
-// Tables of lags: stages, events and places, the checks that calls share, and the edits that need no solver.
-pub mod checks;
-pub mod edits;
+// Tables of lags: stages, events and places, and the faults of a plan.
 pub mod fault;
 pub mod layout;

@@ -1,5 +1,2 @@
-pub mod Mirroring
-pub mod Passing
-pub mod Putting
-pub mod Solving
+pub mod Copied
 pub mod Writing

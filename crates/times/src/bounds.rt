@@ -2,19 +2,19 @@
 ghost use Prim.Native.Nat.{min};
 ghost use lib.ListN.{length};
 ghost use Rattle.times.specs.Calls.{Earliest-ends, Latest-ends, Spread-ends};
-use crate::solve::contradiction;
-use crate::solve::copy_first;
-use crate::solve::greatest_times;
-use crate::solve::inner_of;
-use crate::solve::least_times;
-use crate::solve::turn_back;
+use crate::copying::copy_first;
+use crate::copying::inner_of;
+use crate::copying::turn_back;
+use checks::check_event;
+use checks::check_rows;
 use marks::kind::Mark;
-use tables::checks::check_event;
-use tables::checks::check_rows;
 use tables::fault::PlanFault;
 use tables::layout::time_at;
 use turned::Turned;
 use turned::TurnedMark;
+use views::solve::contradiction;
+use views::solve::greatest_times;
+use views::solve::least_times;
 
 // Writes for each event the least time over all schedules, or free where schedules have it before every row. `totals` and `next` are
 // working rows.

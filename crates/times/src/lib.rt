@@ -1,4 +1,3 @@
-// Schedules and times: set, earliest, latest, spread.
+// Exact times over all schedules: earliest, latest, spread.
 pub mod bounds;
-pub mod setting;
-mod solve;
+mod copying;

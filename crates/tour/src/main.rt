@@ -5,9 +5,9 @@ mod show;
 mod stamps_plan;
 
 use marks::kind::Mark;
-use marks::minutes::Minutes;
-use marks::minutes::MinutesLag;
-use marks::minutes::MinutesMark;
+use minutes::Minutes;
+use minutes::MinutesLag;
+use minutes::MinutesMark;
 use plan::PlanFault;
 use show::show_outcome;
 use show::show_refusal;
@@ -50,21 +50,20 @@ fn lay_lags(table: &mut [Option<MinutesLag>]) {
     }
 }
 
-fn due_times() -> [Option<Minutes>; EVENTS] {
-    let mut due = [None; EVENTS];
+fn write_due(due: &mut [Option<Minutes>]) {
     for (event, minutes) in DUE {
-        if event < EVENTS {
+        if event < due.len() {
             due[event] = Minutes::make_total(&[minutes]);
         }
     }
-    due
 }
 
 // Backward from the due times, and forward again from the starts that it gives.
 fn work_back(rt: &LibcRuntime, table: &[Option<MinutesLag>]) -> io::Result<()> {
-    let due = due_times();
+    let mut due = [None; EVENTS];
     let mut starts = [None; EVENTS];
     let mut finishes = [None; EVENTS];
+    write_due(&mut due);
     println!(rt, "work back from the due times to the latest starts")?;
     show_times(rt, "due", &due, &FINISHES)?;
     show_outcome(
@@ -81,6 +80,21 @@ fn work_back(rt: &LibcRuntime, table: &[Option<MinutesLag>]) -> io::Result<()> {
     check_times(rt, table, &starts, &finishes)
 }
 
+// The starts and the finishes in one row.
+fn join_times(
+    starts: &[Option<Minutes>],
+    finishes: &[Option<Minutes>],
+    times: &mut [Option<Minutes>],
+) {
+    for event in 1..times.len() {
+        times[event] = if event % 2 == 1 {
+            time_at(starts, event)
+        } else {
+            time_at(finishes, event)
+        };
+    }
+}
+
 // A row of the starts and the finishes, with the opening at zero, kept and then broken.
 fn check_times(
     rt: &LibcRuntime,
@@ -89,13 +103,7 @@ fn check_times(
     finishes: &[Option<Minutes>],
 ) -> io::Result<()> {
     let mut times = [Some(Minutes::zero()); EVENTS];
-    for event in 1..EVENTS {
-        times[event] = if event % 2 == 1 {
-            time_at(starts, event)
-        } else {
-            time_at(finishes, event)
-        };
-    }
+    join_times(starts, finishes, &mut times);
     println!(rt, "check the starts and finishes")?;
     show_check(rt, plan::check::<Minutes>(STAGES, table, &times))?;
     times[4] = Minutes::make_total(&[10]);

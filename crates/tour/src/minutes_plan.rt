@@ -4,9 +4,9 @@ use crate::show::show_refusal;
 use crate::show::show_set;
 use crate::show::show_times;
 use marks::kind::Mark;
-use marks::minutes::Minutes;
-use marks::minutes::MinutesLag;
-use marks::minutes::MinutesMark;
+use minutes::Minutes;
+use minutes::MinutesLag;
+use minutes::MinutesMark;
 use std::io;
 
 const STAGES: usize = 2;
@@ -113,14 +113,19 @@ fn show_spread(rt: &LibcRuntime, table: &[Option<MinutesLag>], event: usize) -> 
     }
 }
 
+fn set_lags(rt: &LibcRuntime, table: &mut [Option<MinutesLag>]) -> io::Result<()> {
+    for (to, from, minutes) in LAGS {
+        set_lag(rt, table, to, from, minutes)?;
+    }
+    Ok(())
+}
+
 pub fn walk(rt: &LibcRuntime) -> io::Result<()> {
     let mut table = [None; 25];
     println!(rt, "open a plan of {STAGES} stages")?;
     show_outcome(rt, plan::open::<Minutes>(STAGES, &mut table))?;
     show_earliest(rt, &table)?;
-    for (to, from, minutes) in LAGS {
-        set_lag(rt, &mut table, to, from, minutes)?;
-    }
+    set_lags(rt, &mut table)?;
     show_earliest(rt, &table)?;
     show_latest(rt, &table)?;
     show_spread(rt, &table, 4)?;

@@ -2,9 +2,9 @@
 use crate::show::show_refusal;
 use crate::show::show_times;
 use marks::kind::Mark;
-use marks::minutes::Minutes;
-use marks::minutes::MinutesLag;
-use marks::minutes::MinutesMark;
+use minutes::Minutes;
+use minutes::MinutesLag;
+use minutes::MinutesMark;
 use std::io;
 use tables::layout::put_lag;
 

@@ -1,8 +1,8 @@
 // What the walks print.
 use marks::fault::Layer;
 use marks::kind::Mark;
-use marks::minutes::Minutes;
-use marks::minutes::MinutesMark;
+use minutes::Minutes;
+use minutes::MinutesMark;
 use plan::PlanFault;
 use std::io;
 use tables::layout::time_at;

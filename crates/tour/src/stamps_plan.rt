@@ -1,12 +1,12 @@
 // Where minutes and stamps part: lags whose minutes cancel and whose turns do not.
 use crate::show::show_set;
 use marks::kind::Mark;
-use marks::minutes::Minutes;
-use marks::minutes::MinutesLag;
-use marks::minutes::MinutesMark;
-use marks::stamp::Stamp;
-use marks::stamp::StampLag;
-use marks::stamp::StampMark;
+use minutes::Minutes;
+use minutes::MinutesLag;
+use minutes::MinutesMark;
+use stamps::Stamp;
+use stamps::StampLag;
+use stamps::StampMark;
 use std::io;
 
 const EVENTS: usize = 3;

@@ -19,7 +19,7 @@ loop-k-again g c =
     let lag = ap (mapped (K .amount)) (c .lag-at .ensures (omega (arith, c .pre .0)) (c .pre .1 .0) (omega arith)) in
     let inside = c .pre .1 .1 (suc (c .loop-k .k)) in
     let fits = end-fits (K .amount) (g .K·Mark·met .«amount_limit») (mapped (K .row) (c .time-at .result)) (c .lag-at .result) (λ r e. inside r (omega arith) (omega arith) (sym (total ∙ ap (times (K .row) (c .args .starts .now)) at) ∙ e)) in
-    latest-step (c .loop-k .k) (λ j. f (start j)) (mapped (K .row) (c .loop-k .latest)) (mapped (K .row) (c .sum-of-end .result)) (mapped (K .row) (c .later-of-latest .result)) (c .loop-k .inv) (c .sum-of-end .ensures fits ∙ ap₂ added total lag ∙ ap f at) (c .later-of-latest .ensures)
+    latest-step (c .loop-k .k) (λ j. f (start j)) (mapped (K .row) (c .loop-k .latest)) (mapped (K .row) (c .sum-of-end .result)) (mapped (K .row) (c .later-of-latest .result)) (c .loop-k .inv) (c .sum-of-end .ensures .fits fits ∙ ap₂ added total lag ∙ ap f at) (c .later-of-latest .ensures)
 
 pub returns : need.returns
 returns g c =

@@ -1,9 +1,8 @@
 use mathlib.Core.Path.{_≡_, sym, ap, subst, _∙_}
-use mathlib.Core.Bool.{Bool, true, false}
+use mathlib.Core.Bool.{Bool}
 use mathlib.Core.List.{List}
 use Prim.Native.Nat.{ℕ, _+_}
 use native.Mathlib.Omega.{arith}
-use lib.ListN.{length, set}
 use Rattle.std.specs.Options.{isSome}
 use Rattle.tables.specs.Tables.{lags}
 use Rattle.reach.proofs.Marks.{Followed-below, stands-from, stands-not, followed-none, followed-stand, followed-skip, followed-all}

@@ -1,7 +1,7 @@
-use mathlib.Core.Path.{_≡_, refl, _∙_}
-use mathlib.Core.Bool.{Bool, true, false}
+use mathlib.Core.Path.{_∙_}
+use mathlib.Core.Bool.{true, false}
 use native.Mathlib.Omega.{arith}
-use lib.ListN.{length, set, replicate}
+use lib.ListN.{replicate}
 use Rattle.std.proofs.shelf.Lists.{length-set}
 use Rattle.tables.specs.Tables.{lags}
 use Rattle.reach.proofs.Marks.{following-first, following-more, following-all, unmarked-falls, none-marked}

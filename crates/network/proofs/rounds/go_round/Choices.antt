@@ -2,7 +2,8 @@ use mathlib.Core.Path.{_≡_}
 use Prim.Native.Nat.{ℕ, _<_}
 use lib.ListN.{getD}
 use Rattle.tables.specs.Tables.{times}
-use Rattle.network.specs.Steps.{kept-at, Went-round}
+use Rattle.schedules.specs.Walks.{kept-at}
+use Rattle.network.specs.Steps.{Went-round}
 use Rattle.network.proofs.rounds.go_round.Given as given
 
 abbrev pub Inv-loop-event : given.InvT-loop-event

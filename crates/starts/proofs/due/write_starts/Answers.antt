@@ -1,7 +1,7 @@
 use mathlib.Core.Path.{_≡_, refl, sym, ap, subst, _∙_}
 use Prim.Native.Nat.{ℕ, suc, _+_, _-_, _*_, _≤_, _<_}
 use native.Mathlib.Omega.{arith}
-use lib.ListN.{length, set, getD}
+use lib.ListN.{length, set}
 use Rattle.std.proofs.shelf.Lists.{getD-set-same, length-set}
 use Rattle.std.specs.Options.{mapped}
 use Rattle.std.specs.declared.option.Option.{Option}
@@ -10,10 +10,10 @@ use Rattle.rows.specs.Extremes.{Earliest-of, Among}
 use Rattle.rows.specs.MaxPlus.{taken}
 use Rattle.rows.specs.Rows.{Row}
 use Rattle.tables.specs.Checks.{Given}
-use Rattle.tables.specs.Tables.{start, finish, events, place, lags, times}
+use Rattle.tables.proofs.Meanings.{table-holds, row-holds}
+use Rattle.tables.specs.Tables.{start, finish, events, lags, times}
 use Rattle.starts.proofs.Backwards.{backward}
-use Rattle.starts.proofs.Filling.{Filled, filled-none, filled-step, filled-rest}
-use Rattle.starts.proofs.Widths.{mapped-wide}
+use Rattle.starts.proofs.Filling.{filled-none, filled-step, filled-rest}
 use Rattle.starts.proofs.due.write_starts.Needs as need
 
 pub loop-stage-holds : need.loop-stage-holds
@@ -38,8 +38,8 @@ returns g c =
     let inv = c .loop-stage .inv in
     let all = c .pre .1 .0 in (
       backward (K .wide) (c .args .stages) (lags (K .amount) (events (c .args .stages)) (c .args .table .now)) (times (K .row) (c .args .due .now)) (times (K .row) (c .loop-stage .starts))
-          (λ v r e. mapped-wide (K .wide) (K .row) (g .K·Mark·met .«row_wide») (getD (c .args .due .now) v None) r e)
-          (λ v u r e. mapped-wide (K .wide) (K .amount) (g .K·Mark·met .«amount_wide») (getD (c .args .table .now) (place (events (c .args .stages)) v u) None) r e)
+          (λ v r e. row-holds (λ q. length q ≡ K .wide) (K .row) (g .K·Mark·met .«row_wide») (c .args .due .now) v r e)
+          (λ v u r e. table-holds (λ q. length q ≡ K .wide) (K .amount) (g .K·Mark·met .«amount_wide») (events (c .args .stages)) (c .args .table .now) v u r e)
           (λ j low high. given j low high)
           (λ k low high. inv .starts k low (subst (λ (i : ℕ). k ≤ i) (sym end) high))
           (inv .opening)

@@ -8,8 +8,8 @@ use Rattle.std.specs.declared.option.Option.{Option}
 use Rattle.std.specs.declared.option.Option.the-variants.{None}
 use Rattle.rows.specs.Rows.{Row}
 use Rattle.tables.specs.Tables.{finish, events, lags, times}
-use Rattle.starts.specs.Starts.{Finished, Finishes}
-use Rattle.starts.proofs.Filling.{Filled, filled-none, filled-step, filled-rest}
+use Rattle.starts.specs.Starts.{Finished}
+use Rattle.starts.proofs.Filling.{filled-none, filled-step, filled-rest}
 use Rattle.starts.proofs.forward.write_finishes.Needs as need
 
 pub loop-stage-holds : need.loop-stage-holds

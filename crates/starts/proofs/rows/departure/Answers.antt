@@ -1,4 +1,4 @@
-use mathlib.Core.Path.{_≡_, sym, ap, ap₂, subst, _∙_}
+use mathlib.Core.Path.{sym, ap, ap₂, subst, _∙_}
 use Rattle.std.specs.Options.{mapped}
 use Rattle.rows.specs.MaxPlus.{taken}
 use Rattle.tables.specs.Checks.{Given}
@@ -9,4 +9,4 @@ pub returns : need.returns
 returns g c =
     let total = ap (mapped (g .K·Mark .row)) (c .time-at .ensures) in
     let lag = ap (mapped (g .K·Mark .amount)) (c .lag-at .ensures (c .pre .0) (c .pre .1 .0) (c .pre .1 .1 .0)) in
-    c .difference-of .ensures (fits-taken (g .K·Mark .amount) (g .K·Mark·met .«amount_limit») (mapped (g .K·Mark .row) (c .time-at .result)) (c .lag-at .result) (subst Given (sym total) (c .pre .1 .1 .1))) ∙ ap₂ taken total lag
+    c .difference-of .ensures .fits (fits-taken (g .K·Mark .amount) (g .K·Mark·met .«amount_limit») (mapped (g .K·Mark .row) (c .time-at .result)) (c .lag-at .result) (subst Given (sym total) (c .pre .1 .1 .1))) ∙ ap₂ taken total lag

@@ -1,12 +1,12 @@
-use mathlib.Core.Path.{_≡_, refl, sym, ap, subst, _∙_}
-use mathlib.Core.Logic.{inl, inr}
+use mathlib.Core.Path.{_≡_, refl, subst}
+use mathlib.Core.Logic.{inr}
 use Prim.Native.Nat.{ℕ}
 use lib.ListN.{drop}
 use borrow.Author.Needs.{needs}
-use Rattle.network.specs.Networks.{Least-times}
+use Rattle.schedules.specs.Answers.{Least-times}
 use Rattle.tables.specs.Tables.{lags, times}
-use Rattle.times.proofs.Mirroring.{table-wide, copied}
-use Rattle.times.proofs.Solving.{refused, granted}
+use Rattle.times.proofs.Copied.{copied}
+use Rattle.views.proofs.Solving.{refused, granted}
 use Rattle.times.proofs.bounds.earliest.Needs as need
 
 pub returns-in-Some : need.returns-in-Some
@@ -23,4 +23,4 @@ returns g c =
     let passed = c .in-Continue-count .ensures tt in
     let has = granted (K .wide) m _ (λ m. lags (K .amount) m (c .args .table .now)) (passed .1 .0 .count) (c .args .loop-row .now) (c .contradiction .last .loop-row) (c .in-rest .ensures tt) in
     let P : ℕ → Type 0 = λ k. Least-times (K .wide) k (lags (K .amount) k (c .args .table .now)) (times (K .row) (c .copy-first .last .totals)) × (drop k (c .copy-first .last .totals) ≡ drop k (c .args .answer .now)) in
-    (search needs, (has .0, (subst P (passed .1 .0 .count) (copied (K .wide) m (lags (K .amount) m (c .args .table .now)) (table-wide (K .wide) m (K .amount) (c .args .table .now) (g .K·Mark·met .«amount_wide»)) (K .row) (c .least-times .last .totals) (c .args .answer .now) (c .copy-first .last .totals) (c .least-times .ensures) (c .copy-first .ensures), c .copy-first .ensures .1), has .1)))
+    (search needs, (has .0, (subst P (passed .1 .0 .count) (copied (K .wide) m (lags (K .amount) m (c .args .table .now)) (K .row) (c .least-times .last .totals) (c .args .answer .now) (c .copy-first .last .totals) (c .least-times .ensures) (c .copy-first .ensures), c .copy-first .ensures .1), has .1)))

@@ -1,0 +1,3 @@
+// Tests of the kinds of mark at the numbers where their answers change.
+#[cfg(test)]
+mod kinds;

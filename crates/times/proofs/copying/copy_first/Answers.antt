@@ -1,0 +1,24 @@
+use mathlib.Core.Path.{_≡_}
+use native.Mathlib.Omega.{arith}
+use Prim.Native.Nat.{_<_}
+use lib.ListN.{getD, length}
+use borrow.Author.Needs.{needs}
+use Rattle.std.proofs.shelf.Lists.{getD-read}
+use Rattle.std.specs.declared.option.Option.the-variants.{None}
+use Rattle.times.proofs.Writing.{written-none, written-more, written-all}
+use Rattle.times.proofs.copying.copy_first.Needs as need
+
+pub loop-event-holds : need.loop-event-holds
+loop-event-holds g c = written-none (λ e. getD (c .args .source .now) e None) (c .args .totals .now)
+
+pub loop-event-again : need.loop-event-again
+loop-event-again g c =
+    written-more (λ e. getD (c .args .source .now) e None) (c .args .totals .now) (c .loop-event .event) (c .loop-event .totals) (c .index-source-event .result) (omega (arith, c .pre .1)) (getD-read (c .args .source .now) (c .loop-event .event) (c .index-source-event .result) (omega (arith, c .pre .0)) (c .index-source-event .is) None) (c .loop-event .inv)
+
+pub returns : need.returns
+returns g c =
+    let end : c .loop-event .event ≡ c .args .count = omega arith in
+    written-all (λ e. getD (c .args .source .now) e None) (c .args .totals .now) (c .loop-event .event) (c .args .count) (c .loop-event .totals) end (c .loop-event .inv)
+
+pub offset-totals-event : need.offset-totals-event
+offset-totals-event g c = let h : c .loop-event .event < length (c .args .totals .now) = omega (arith, c .pre .1) in search needs

@@ -1,0 +1,3 @@
+pub mod Mirroring
+pub mod Solving
+pub mod Views
