@@ -9,11 +9,11 @@ use Rattle.std.specs.declared.option.Option.{Option}
 use Rattle.std.specs.declared.option.Option.the-variants.{Some, None}
 use Rattle.rows.specs.Extremes.{Latest-of}
 use Rattle.rows.specs.MaxPlus.{later, added}
-use Rattle.rows.specs.Rows.{Row, NotBefore}
+use Rattle.rows.specs.Rows.{Row}
 use Rattle.rows.proofs.Order.{not-before-antisym, not-before-sum}
 use Rattle.rows.proofs.Sums.{plus-comm}
-use Rattle.rows.proofs.Tests.{later-both}
 use Rattle.schedules.proofs.Optional.{Rowed, AtLeast, at-least-refl, at-least-trans, later-rowed, later-at-left, later-at-right, later-one}
+use Rattle.schedules.proofs.Under.{later-under}
 use Rattle.rows.proofs.Options.{none-or-some}
 use Rattle.rows.specs.Algebra.{Vector, sum, _≼_}
 
@@ -22,12 +22,6 @@ antisym w None None d e h k = refl
 antisym w None (Some y) d e h k = absurd h
 antisym w (Some x) None d e h k = absurd k
 antisym w (Some x) (Some y) d e h k = ap (λ (z : Row). Some z) (not-before-antisym x y (d ∙ sym e) h k)
-
-pub later-least : (q o p : Option Row) → AtLeast q o → AtLeast q p → AtLeast q (later o p)
-later-least q None p h k = k
-later-least q (Some x) None h k = h
-later-least None (Some x) (Some y) h k = absurd h
-later-least (Some z) (Some x) (Some y) h k = later-both (λ (t : Row). NotBefore z t) x y h k
 
 pub added-mono : (o p l : Option Row) → AtLeast o p → AtLeast (added o l) (added p l)
 added-mono o None l h = tt
@@ -44,7 +38,7 @@ added-comm (Some x) (Some y) = ap (λ (z : Row). Some z) (plus-comm x y)
 -- the order of the algebra
 
 pub below-from : (w : ℕ) (a b : Option Row) → Rowed w a → Rowed w b → AtLeast b a → a ≼ b
-below-from w a b d e h = antisym w (later a b) b (later-rowed w a b d e) e (later-at-right a b) (later-least b a b h (at-least-refl b))
+below-from w a b d e h = antisym w (later a b) b (later-rowed w a b d e) e (later-at-right a b) (later-under b a b h (at-least-refl b))
 
 pub below-to : (a b : Option Row) → a ≼ b → AtLeast b a
 below-to a b e = subst (λ (o : Option Row). AtLeast o a) e (later-at-left a b)
@@ -57,7 +51,7 @@ sum-same (suc n) f g h = ap₂ later (sum-same n f g (λ k l. h k (omega arith))
 
 pub sum-least : (n : ℕ) (f : Vector) (q : Option Row) → ((k : ℕ) → k < n → AtLeast q (f k)) → AtLeast q (sum n f)
 sum-least zero f q h = tt
-sum-least (suc n) f q h = later-least q (sum n f) (f n) (sum-least n f q (λ k l. h k (omega arith))) (h n (omega arith))
+sum-least (suc n) f q h = later-under q (sum n f) (f n) (sum-least n f q (λ k l. h k (omega arith))) (h n (omega arith))
 
 pub sum-reached : (n : ℕ) (f : Vector) (q : Row) → sum n f ≡ Some q → (k : ℕ) × (k < n) × (f k ≡ Some q)
 sum-reached zero f q e = none-or-some q e

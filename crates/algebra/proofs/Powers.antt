@@ -17,8 +17,8 @@ use Rattle.rows.proofs.Sums.{length-zeros}
 use Rattle.schedules.specs.Plans.{Totals, Wide}
 use Rattle.schedules.specs.Rounds.{round, rounds}
 use Rattle.schedules.specs.Walks.{Source}
-use Rattle.schedules.proofs.Optional.{Rowed, AtLeast, rowed-from, rowed-to, at-least-refl, at-least-trans, after-rowed, after-is}
-use Rattle.schedules.proofs.Rounds.{Sized, rounds-sized, round-covers, rounds-mono, round-source}
+use Rattle.schedules.proofs.Optional.{Rowed, AtLeast, rowed-to, at-least-refl, at-least-trans, after-rowed, after-is}
+use Rattle.schedules.proofs.Rounds.{lag-rowed, Sized, rounds-sized, round-covers, rounds-mono, round-source}
 use Rattle.rows.specs.Algebra.{Matrix, identity, power, powers}
 use Rattle.algebra.proofs.Order.{antisym, added-mono, added-comm, sum-least, sum-rowed, sum-covers, latest-unique}
 
@@ -41,16 +41,13 @@ abbrev pub Upto : ℕ → ℕ → Matrix → ℕ → ℕ → ℕ → Row → Typ
 Upto w m A v j k q = (i : ℕ) × (i ≤ k) × (power w m A i v j ≡ Some q)
 
 module _ (w m : ℕ) (A : Matrix) (wide : Wide w m A) where
-  entry-rowed : (v u : ℕ) → v < m → u < m → Rowed w (A v u)
-  entry-rowed v u v-in u-in = rowed-from w (A v u) (λ a e. wide v u a v-in u-in e)
-
   pub power-rowed : (k v j : ℕ) → v < m → Rowed w (power w m A k v j)
   power-rowed zero v j v-in = identity-rowed w v j
   power-rowed (suc k) v j v-in =
-      sum-rowed w m (λ u. added (A v u) (power w m A k u j)) (λ u u-in. after-rowed w (A v u) (power w m A k u j) (entry-rowed v u v-in u-in) (power-rowed k u j u-in))
+      sum-rowed w m (λ u. added (A v u) (power w m A k u j)) (λ u u-in. after-rowed w (A v u) (power w m A k u j) (lag-rowed w m A wide v u v-in u-in) (power-rowed k u j u-in))
 
   part-rowed : (k v j u : ℕ) → v < m → u < m → Rowed w (added (A v u) (power w m A k u j))
-  part-rowed k v j u v-in u-in = after-rowed w (A v u) (power w m A k u j) (entry-rowed v u v-in u-in) (power-rowed k u j u-in)
+  part-rowed k v j u v-in u-in = after-rowed w (A v u) (power w m A k u j) (lag-rowed w m A wide v u v-in u-in) (power-rowed k u j u-in)
 
   pub power-wide : (k v j : ℕ) (q : Row) → v < m → power w m A k v j ≡ Some q → length q ≡ w
   power-wide k v j q v-in e = rowed-to w (power w m A k v j) q e (power-rowed k v j v-in)
@@ -71,7 +68,7 @@ module _ (w m : ℕ) (A : Matrix) (wide : Wide w m A) where
       step : (u : ℕ) → u < m → AtLeast (rounds m A (unit w j) k u) (power w m A i u j) → AtLeast (rounds m A (unit w j) (suc k) v) (added (A v u) (power w m A i u j))
       step u u-in h =
           at-least-trans w (rounds m A (unit w j) (suc k) v) (added (rounds m A (unit w j) k u) (A v u)) (added (A v u) (power w m A i u j))
-          (column-rowed j (suc k) v v-in) (after-rowed w (rounds m A (unit w j) k u) (A v u) (column-rowed j k u u-in) (entry-rowed v u v-in u-in))
+          (column-rowed j (suc k) v v-in) (after-rowed w (rounds m A (unit w j) k u) (A v u) (column-rowed j k u u-in) (lag-rowed w m A wide v u v-in u-in))
           (round-covers w m A wide (rounds m A (unit w j) k) (rounds-sized w m A wide (unit w j) (unit-sized w m j) k) v u v-in u-in)
           (subst (AtLeast (added (rounds m A (unit w j) k u) (A v u))) (added-comm (power w m A i u j) (A v u)) (added-mono (rounds m A (unit w j) k u) (power w m A i u j) (A v u) h))
 

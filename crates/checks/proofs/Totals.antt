@@ -18,9 +18,6 @@ pub given-from : (x : Option Row) → total-missed x ≡ false → Given x
 given-from None h = absurd (let z : _≡_ {A = Bool} true false = h in let y : _≡_ {A = ℕ} 0 1 = cc in omega arith)
 given-from (Some r) h = (r, refl, inside-true given-limit r (not-false (inside given-limit r) h))
 
-pub totals-none : (x : Totals) (first step : ℕ) → totals-missed x first step 0 ≡ false
-totals-none x first step = refl
-
 pub totals-more : (x : Totals) (first step k : ℕ) → totals-missed x first step k ≡ false → total-missed (x (first + step * k)) ≡ false → totals-missed x first step (suc k) ≡ false
 totals-more x first step k h e = or-from (total-missed (x (first + step * k))) (totals-missed x first step k) e h
 

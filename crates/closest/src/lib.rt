@@ -9,12 +9,12 @@ ghost use Rattle.closest.specs.Closest.{Closest};
 ghost use Rattle.closest.specs.Steps.{minute, finish-of, miss, largest, Starts-inside, Moved-fits, Moved, Ready};
 use crate::served::check_served;
 use checks::check_rows;
+use due::backward;
 use marks::kind::Mark;
 use minutes::Minutes;
 use minutes::MinutesLag;
 use minutes::MinutesMark;
 use rows::MOST_EVENTS;
-use starts::due::backward;
 use tables::fault::PlanFault;
 use tables::layout::lag_at;
 use tables::layout::time_at;
@@ -96,7 +96,7 @@ fn write_moved<K: Mark>(
     }
 }
 
-// Writes the greatest starts in time, all moved by half of the largest distance of their finishes; answers that half.
+// Writes the greatest starts in time, all moved by half of the largest distance of their finishes, rounded up; answers that half.
 fn write_closest<K: Mark>(
     stages: usize,
     table: &[Option<K::Lag>],

@@ -33,7 +33,7 @@ fn has_lag_from<K: Mark>(stages: usize, table: &[Option<K::Lag>], from: usize) -
     found
 }
 
-// Of stage k + 1.
+// Whether stage k + 1 has a start-to-finish lag into its finish and one from its start.
 fn is_served<K: Mark>(stages: usize, table: &[Option<K::Lag>], k: usize) -> bool
     requires { ⌜ stages ≤ 31 ⌝ ∗ ⌜ k < stages ⌝ }
     ensures { λ r. ⌜ r ≡ served stages (lags amount (events stages) (now (table .entry))) (k + 1) ⌝ }

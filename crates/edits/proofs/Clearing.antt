@@ -1,5 +1,5 @@
 -- One event's places, cleared pair by pair.
-use mathlib.Core.Path.{_≡_, refl, sym, ap, subst, _∙_}
+use mathlib.Core.Path.{_≡_, sym, ap, subst, _∙_}
 use mathlib.Core.List.{List}
 use mathlib.Core.Logic.{_⊎_, inl, inr}
 use Prim.Native.Nat.{ℕ, _+_, _*_, _<_}
@@ -19,13 +19,6 @@ Met e i v u = ((v ≡ e) × (u < i)) ⊎ ((u ≡ e) × (v < i))
 pub record Cleared-below {A : Type 0} (m e i : ℕ) (table after : List (Option A)) : Type 0 where
   pub emptied : (v u : ℕ) → v < m → u < m → Met e i v u → getD after (place m v u) None ≡ None
   pub kept : (v u : ℕ) → v < m → u < m → (Met e i v u → ⊥) → getD after (place m v u) None ≡ getD table (place m v u) None
-
-pub cleared-none : {A : Type 0} (m e : ℕ) (table : List (Option A)) → Cleared-below m e 0 table table
-cleared-none m e table = record { emptied = λ v u h k met. absurd (none v u met); kept = λ v u h k out. refl }
-  where
-    none : (v u : ℕ) → Met e 0 v u → ⊥
-    none v u (inl p) = omega arith
-    none v u (inr p) = omega arith
 
 -- a pair is (t, s) or not
 pub data Pair (v u t s : ℕ) : Type 0 where

@@ -1,2 +1,2 @@
 pub mod Backing
-pub mod Turning
+pub mod Rotating

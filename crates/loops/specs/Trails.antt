@@ -48,12 +48,12 @@ pub record Low-under (path : List ℕ) (c d n low : ℕ) : Type 0 where
   pub least-last : on path low ≤ on path d
 
 -- a list that begins at its place lo, and goes on at its start
-abbrev pub turned : ℕ → List ℕ → List ℕ
-turned lo es = drop lo es ++ take lo es
+abbrev pub rotated : ℕ → List ℕ → List ℕ
+rotated lo es = drop lo es ++ take lo es
 
--- The first places of the row have the events p d, .., p (c + 1), turned so that p low is first, and the others are as they were.
-pub record Turned-in (p : ℕ → ℕ) (c d low : ℕ) (row after : List ℕ) : Type 0 where
-  pub events : take (d - c) after ≡ turned (d - low) (backs p c (d - c))
+-- The first places of the row have the events p d, .., p (c + 1), rotated so that p low is first, and the others are as they were.
+pub record Rotated-in (p : ℕ → ℕ) (c d low : ℕ) (row after : List ℕ) : Type 0 where
+  pub events : take (d - c) after ≡ rotated (d - low) (backs p c (d - c))
   pub rest : drop (d - c) after ≡ drop (d - c) row
 
 -- So they have a closed part of the walk p, its lowest event first.
@@ -66,4 +66,4 @@ pub record Written (m : ℕ) (p : ℕ → ℕ) (row after : List ℕ) (len : ℕ
   pub after-first : first < low
   pub to-last : low ≤ last
   pub least : (i : ℕ) → first < i → i ≤ last → p low ≤ p i
-  pub turned-in : Turned-in p first last low row after
+  pub rotated-in : Rotated-in p first last low row after

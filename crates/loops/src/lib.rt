@@ -2,7 +2,7 @@
 ghost use mathlib.Core.Path.{_≡_};
 ghost use Prim.Native.Nat.{_≤_, _<_};
 ghost use lib.ListN.{length};
-ghost use Rattle.loops.specs.Trails.{back, Holds, Leads, Low-under, Met-twice, on, Place-of, Turned-in, Written};
+ghost use Rattle.loops.specs.Trails.{back, Holds, Leads, Low-under, Met-twice, on, Place-of, Rotated-in, Written};
 use rows::MOST_EVENTS;
 
 // A place, of the first so many, that has the event.
@@ -52,9 +52,9 @@ fn lowest_place(path: &[usize], first: usize, last: usize) -> usize
 }
 
 // The events after place `first`, up to `last`, backwards and in a circle from `lowest` on.
-fn write_turned(path: &[usize], first: usize, last: usize, lowest: usize, row: &mut [usize])
+fn write_rotated(path: &[usize], first: usize, last: usize, lowest: usize, row: &mut [usize])
     requires { ⌜ first < lowest ⌝ ∗ ⌜ lowest ≤ last ⌝ ∗ ⌜ last < length (now path) ⌝ ∗ ⌜ last ≤ 63 ⌝ ∗ ⌜ last ≤ length (now row) ⌝ }
-    ensures { λ _. ⌜ Turned-in (on (now (path .entry))) first last lowest (now (row .entry)) (now (row .exit)) ⌝ }
+    ensures { λ _. ⌜ Rotated-in (on (now (path .entry))) first last lowest (now (row .entry)) (now (row .exit)) ⌝ }
 {
     let count = last - first;
     for place in 0..count {
@@ -72,6 +72,6 @@ pub fn write_loop(count: usize, sources: &[u8], event: usize, row: &mut [usize])
     let mut path = [0; MOST_EVENTS + 1];
     let (first, last) = walk_back(count, sources, event, &mut path);
     let lowest = lowest_place(&path, first, last);
-    write_turned(&path, first, last, lowest, row);
+    write_rotated(&path, first, last, lowest, row);
     last - first
 }

@@ -15,9 +15,9 @@ use std::cmp::Ordering;
 use std::test::*;
 use turned::Turned;
 use turned::TurnedMark;
-use turned::twice::add_turned_twice;
-use turned::twice::order_turned_twice;
-use turned::twice::take_turned_twice;
+use twice::add_turned_twice;
+use twice::order_turned_twice;
+use twice::take_turned_twice;
 
 fn minutes(minute: i64) -> Result<Minutes, Fail> {
     Ok(Minutes::make_total(&[minute]).ok_or("no total")?)

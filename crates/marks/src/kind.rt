@@ -9,7 +9,7 @@ ghost use Rattle.marks.specs.Meaning.{Lag-made, Total-made, Total-of, part-at}
 use crate::fault::MarkFault;
 use std::cmp::Ordering;
 
-// A total is a `Self`; each kind names its own sort of lag.
+// A mark is a lag or a total. A total is a `Self`; each kind names its own sort of lag.
 pub trait Mark: Copy {
     type Lag: Copy;
 

@@ -60,6 +60,7 @@ pub fn take_parts(total: i64, lag: i64) -> Option<i64>
     within_total(total_part(total) - lag_part(lag))
 }
 
+// Whether a part is within the limit of given totals.
 pub fn within_given(number: i64) -> bool
     ensures { λ r. ⌜ r ≡ bounded given-limit number ⌝ }
 {

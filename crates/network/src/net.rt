@@ -1,4 +1,4 @@
-// What a solver reads of a plan: its events and its lags, in whatever direction and with whatever lags added.
+// What a solver reads of a plan: its events and its lags, in whatever direction.
 ghost use mathlib.Core.Path.{_≡_};
 ghost use Prim.Native.Nat.{ℕ, _<_};
 ghost use Rattle.schedules.specs.Plans.{Lags};

@@ -4,7 +4,7 @@ ghost use Prim.Native.Nat.{ℕ, _+_, _≤_, _<_};
 ghost use lib.ListN.{getD, length};
 ghost use Rattle.std.specs.Options.{mapped};
 ghost use Rattle.std.specs.declared.option.Option.the-variants.{None};
-ghost use Rattle.tables.specs.Tables.{times};
+ghost use Rattle.tables.specs.Tables.{times, Written};
 ghost use Rattle.network.specs.Networks.{Net, Sums-inside};
 ghost use Rattle.network.specs.Steps.{beats, Raised, Went-round};
 ghost use Rattle.schedules.specs.Walks.{kept-at};
@@ -82,10 +82,10 @@ pub fn go_round<N: Network>(
     changed
 }
 
-// The first totals of one row, put into another.
+// The first totals of one row, put into another; the other places are kept.
 pub fn copy_totals<K: Mark>(count: usize, from: &[Option<K>], to: &mut [Option<K>])
     requires { ⌜ count ≤ length (now from) ⌝ ∗ ⌜ count ≤ length (now to) ⌝ }
-    ensures { λ _. ⌜ ((v : ℕ) → v < count → getD (now (to .exit)) v None ≡ getD (now (from .entry)) v None) ⌝ }
+    ensures { λ _. ⌜ Written (λ v. getD (now (from .entry)) v None) count (now (to .entry)) (now (to .exit)) ⌝ }
 {
     for event in 0..count {
         to[event] = from[event];

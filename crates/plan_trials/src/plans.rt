@@ -27,7 +27,7 @@ fn lag(minutes: i64) -> Result<MinutesLag, Fail> {
     Ok(Minutes::make_lag(&[minutes])?)
 }
 
-// Both finishes hang on both starts; stage 2 starts at least 3 after stage 1.
+// The first finish hangs on both starts, the second on its own; stage 2 starts at least 3 after stage 1.
 fn two_stages() -> Result<Table, Fail> {
     let mut table = [None; PLACES];
     put_lag::<Minutes>(EVENTS, &mut table, 2, 1, Some(lag(5)?));

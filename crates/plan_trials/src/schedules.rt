@@ -1,4 +1,4 @@
-// Set, earliest, latest and spread at worked plans, and their refusals.
+// Set, earliest, latest and spread at worked plans; the checks of set in order, and plans without a schedule.
 use crate::shared::minutes_at;
 use crate::shared::number;
 use marks::kind::Mark;
@@ -27,6 +27,27 @@ fn earliest(
     number(plan::earliest::<Minutes>(4, table, times, &mut totals, &mut next, loop_row))
 }
 
+fn latest(
+    table: &[Option<MinutesLag>],
+    times: &mut [Option<Minutes>],
+    loop_row: &mut [usize],
+) -> u8 {
+    let mut totals = [None; EVENTS];
+    let mut next = [None; EVENTS];
+    let mut turned = [None; EVENTS];
+    let mut turned_next = [None; EVENTS];
+    number(plan::latest::<Minutes>(
+        4,
+        table,
+        times,
+        &mut totals,
+        &mut next,
+        &mut turned,
+        &mut turned_next,
+        loop_row,
+    ))
+}
+
 #[test]
 fn starts_pull_each_other() -> Result<(), Fail> {
     let mut table = [None; 81];
@@ -51,7 +72,7 @@ fn starts_pull_each_other() -> Result<(), Fail> {
 }
 
 #[test]
-fn a_table_with_a_loop_is_number() -> Result<(), Fail> {
+fn a_table_with_a_loop_is_refused() -> Result<(), Fail> {
     let mut table = [None; 81];
     put(&mut table, 7, 3, 2);
     put(&mut table, 3, 7, -1);
@@ -151,4 +172,23 @@ fn spread_is_free_on_an_open_side() -> Result<(), Fail> {
         Ok((Some(least), None)) => check_eq(least.part(0), Some(5)),
         _ => Err(Fail::new("another spread")),
     }
+}
+
+#[test]
+fn latest_goes_back_from_the_due_time() -> Result<(), Fail> {
+    let mut table = [None; 81];
+    put(&mut table, 2, 1, 120);
+    put(&mut table, 0, 2, -300);
+    let mut times = [None; EVENTS];
+    let mut loop_row = [9; EVENTS];
+    check_eq(latest(&table, &mut times, &mut loop_row), 0)?;
+    check_eq(minutes_at(&times, 0), Some(0))?;
+    check_eq(minutes_at(&times, 1), Some(180))?;
+    check_eq(minutes_at(&times, 2), Some(300))?;
+    check_eq(minutes_at(&times, 3), None)?;
+    put(&mut table, 1, 0, 181);
+    check_eq(latest(&table, &mut times, &mut loop_row), 14)?;
+    check_eq(minutes_at(&times, 1), Some(180))?;
+    check_eq(loop_row[2], 2)?;
+    check_eq(loop_row[3], 9)
 }

@@ -1,7 +1,7 @@
 -- From the marks to the answer of waiting.
 use mathlib.Core.Path.{_≡_, refl, sym, ap, subst, _∙_}
 use mathlib.Core.Bool.{Bool, true, false, _&&_, not}
-use mathlib.Core.List.{List, [], _∷_}
+use mathlib.Core.List.{List}
 use mathlib.Core.Logic.{_⊎_, inl, inr, _↔_}
 use Prim.Native.Nat.{ℕ, _≤_, _<_}
 use native.Mathlib.Omega.{arith}
@@ -10,18 +10,14 @@ use lib.Dec.{eqb}
 use lib.ListN.{getD}
 use Rattle.std.proofs.shelf.Tests.{ne-eqb, eqb-false, not-true, and-parts, and-from, not-from-false, cases-lt}
 use Rattle.std.specs.Orderings.{Decides}
-use Rattle.rows.specs.Rows.{Row}
-use Rattle.schedules.specs.Plans.{Lags, Chain}
-use Rattle.reach.specs.Marking.{Reached, digit, mask-of}
+use Rattle.schedules.specs.Plans.{Lags}
+use Rattle.schedules.proofs.Chains.{chain-to}
+use Rattle.reach.specs.Ticks.{Reached, digit, mask-of}
 use Rattle.reach.specs.Waiting.{Waits, Bit, Counts, Waiting}
 use Rattle.reach.proofs.Masks.{bit-of, bit-past, ones-of, counts}
 
 abbrev others : List Bool → ℕ → ℕ → Bool
 others marks e v = not (eqb v e) && getD marks v false
-
-chain-ends : (m : ℕ) (L : Lags) (es : List ℕ) (u v : ℕ) (r : Row) → Chain m L u es v r → v < m
-chain-ends m L [] u v r c = c .1
-chain-ends m L (t ∷ es) u v r c = chain-ends m L es t v (c .1) (c .4)
 
 module _ (m : ℕ) (L : Lags) (e : ℕ) (marks : List Bool) (reached : Reached m L e marks) where
   decides : (v : ℕ) → v < m → Decides (others marks e v) (Waits m L e v)
@@ -48,7 +44,7 @@ module _ (m : ℕ) (L : Lags) (e : ℕ) (marks : List Bool) (reached : Reached m
           (λ b. decides v h .0 (one-digit (others marks e v) (sym at ∙ b)), λ w. at ∙ ap digit (decides v h .1 w))
       go (inr h) =
           let at = bit-past (others marks e) m v h in
-          (λ b. absurd (omega (arith, at, b)), λ w. absurd (omega (arith, chain-ends m L (w .1 .0) e v (w .1 .1) (w .1 .2))))
+          (λ b. absurd (omega (arith, at, b)), λ w. absurd (omega (arith, chain-to m L (w .1 .0) e v (w .1 .1) (w .1 .2))))
 
   pub answered : (mask : ℕ) → mask ≡ mask-of (others marks e) m → Waiting m L e (mask, ones mask)
   answered mask h = record {

@@ -1,3 +1,3 @@
 pub mod Answered
-pub mod Marks
+pub mod Ticking
 pub mod Masks

@@ -11,7 +11,7 @@ use lib.Pow.{pow-pos, pow-add}
 use Rattle.std.specs.Orderings.{Decides}
 use Rattle.std.proofs.shelf.Bits.{or-shifted, or-comm, pow-below}
 use Rattle.std.proofs.shelf.Tests.{cases-lt, true≢false}
-use Rattle.reach.specs.Marking.{digit, mask-of}
+use Rattle.reach.specs.Ticks.{digit, mask-of}
 use Rattle.reach.specs.Waiting.{Counts, nothing, counted, passed}
 
 abbrev pub count-of : (ℕ → Bool) → ℕ → ℕ

@@ -1,3 +1,3 @@
 pub mod Waiting
-pub mod Marking
+pub mod Ticks
 pub mod Calls

@@ -7,7 +7,7 @@ ghost use lib.ListN.{getD, length};
 ghost use Rattle.std.specs.Options.{Cases};
 ghost use Rattle.tables.specs.Tables.{lags};
 ghost use Rattle.reach.specs.Calls.{Waiting-ends};
-ghost use Rattle.reach.specs.Marking.{Marked, Unmarked, Followed, Reached, mask-of};
+ghost use Rattle.reach.specs.Ticks.{Ticked, Unticked, Followed, Reached, mask-of};
 use checks::check_event;
 use checks::check_table;
 use marks::kind::Mark;
@@ -15,7 +15,7 @@ use rows::MOST_EVENTS;
 use tables::fault::PlanFault;
 use tables::layout::lag_at;
 
-// Marks the events that a lag from `from` leads to.
+// Ticks the events that a lag from `from` leads to.
 fn follow<K: Mark>(count: usize, table: &[Option<K::Lag>], from: usize, reached: &mut [bool])
     requires { ⌜ count ≤ 63 ⌝ ∗ ⌜ from < count ⌝ ∗ ⌜ length (now reached) ≡ 63 ⌝ }
     ensures { λ _. ⌜ Followed count (lags amount count (now (table .entry))) from (now (reached .entry)) (now (reached .exit)) ⌝ }
@@ -30,7 +30,7 @@ fn follow<K: Mark>(count: usize, table: &[Option<K::Lag>], from: usize, reached:
 // An event that is reached and not yet followed.
 fn unfollowed(count: usize, reached: &[bool], followed: &[bool]) -> Option<usize>
     requires { ⌜ count ≤ 63 ⌝ ∗ ⌜ length (now reached) ≡ 63 ⌝ ∗ ⌜ length (now followed) ≡ 63 ⌝ }
-    ensures { λ r. ⌜ Cases r ((u : ℕ) → u < count → Marked (now (reached .entry)) u → Marked (now (followed .entry)) u) (λ u. (u < count) × Marked (now (reached .entry)) u × Unmarked (now (followed .entry)) u) ⌝ }
+    ensures { λ r. ⌜ Cases r ((u : ℕ) → u < count → Ticked (now (reached .entry)) u → Ticked (now (followed .entry)) u) (λ u. (u < count) × Ticked (now (reached .entry)) u × Unticked (now (followed .entry)) u) ⌝ }
 {
     for u in 0..count {
         if reached[u] && !followed[u] {

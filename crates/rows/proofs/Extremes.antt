@@ -10,11 +10,9 @@ use Rattle.std.specs.declared.option.Option.the-variants.{Some, None}
 use Rattle.rows.specs.Rows.{Row, Before, NotBefore}
 use Rattle.rows.specs.MaxPlus.{later-of, earlier-of, later, earlier}
 use Rattle.rows.specs.Extremes.{Latest-of, Earliest-of, Among}
+use Rattle.rows.proofs.Options.{none-or-some, same-some}
 use Rattle.rows.proofs.Order.{before-irrefl, before-trans, not-before-trans}
 use Rattle.rows.proofs.Tests.{Later, second, first, later-is, Earlier, earlier-is}
-
-some-injective : (x y : Row) → Some x ≡ Some y → x ≡ y
-some-injective x y e = cc
 
 -- what has one of two properties, of rows of one width
 
@@ -81,16 +79,13 @@ module _ (w : ℕ) (P Q R : Row → Type 0) (split : (q : Row) → R q → P q �
 
 -- one alone is both the latest and the earliest
 
-none-is-no-row : (q : Row) → None ≡ Some q → ⊥
-none-is-no-row q e = let z : _≡_ {A = ℕ} 0 1 = cc in omega arith
-
 pub latest-one : (o : Option Row) → Latest-of (λ q. o ≡ Some q) o
-latest-one None = none-is-no-row
-latest-one (Some x) = (refl, λ q e b. before-irrefl q (subst (λ (r : Row). Before r q) (some-injective x q e) b))
+latest-one None = none-or-some
+latest-one (Some x) = (refl, λ q e b. before-irrefl q (subst (λ (r : Row). Before r q) (same-some x q e) b))
 
 pub earliest-one : (o : Option Row) → Earliest-of (λ q. o ≡ Some q) o
-earliest-one None = none-is-no-row
-earliest-one (Some x) = (refl, λ q e b. before-irrefl q (subst (λ (r : Row). Before q r) (some-injective x q e) b))
+earliest-one None = none-or-some
+earliest-one (Some x) = (refl, λ q e b. before-irrefl q (subst (λ (r : Row). Before q r) (same-some x q e) b))
 
 -- one more of f 1, f 2, ..
 

@@ -1,4 +1,5 @@
--- The limits, named once. Proofs use the relations between them (`Relations`), not the numerals.
+-- The limits. Proofs use the relations between them (`Relations`), not the numerals, but for those that tie the constants of the code to
+-- them.
 use Prim.Native.Nat.{ℕ, _+_, _*_, _^_, _≤_, _<_}
 
 -- on a part of a lag

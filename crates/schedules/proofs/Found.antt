@@ -9,9 +9,8 @@ use Rattle.schedules.specs.Plans.{Lags, Wide, Chain, Distinct, Loop, Totals}
 use Rattle.schedules.specs.Rounds.{Changed}
 use Rattle.schedules.specs.Walks.{Traced, backs, Apart}
 use Rattle.schedules.proofs.Rounds.{Sized}
-use Rattle.schedules.proofs.Walks.{Walked, walk-below, closed-walk, walk-distinct}
+use Rattle.schedules.proofs.Walks.{Walked, closed-walk, walk-distinct}
 use Rattle.schedules.proofs.Rotation.{turned-at}
-use Rattle.schedules.proofs.Repeats.{pigeonhole}
 
 -- places of the events met
 
@@ -38,7 +37,3 @@ module _ (w m : ℕ) (L : Lags) (wide : Wide w m L) (S : Totals) (sized : Sized 
 
       long : length (p (c + suc i) ∷ backs p c i) ≡ suc i
       long = ap suc (length-backs p c i)
-
-  -- a walk of m steps meets some event twice
-  pub walk-repeats : m ≤ d → Apart p (suc m) → ⊥
-  walk-repeats le a = pigeonhole m p (λ i h. walk-below w m L wide S sized n from traced p d walked short start some changed i (omega arith)) a

@@ -27,7 +27,7 @@ pub everywhere-sized : (w m : ℕ) → Sized w m (everywhere w)
 everywhere-sized w m v h = length-zeros w
 
 module _ (w m : ℕ) (L : Lags) (wide : Wide w m L) where
-  lag-rowed : (v u : ℕ) → v < m → u < m → Rowed w (L v u)
+  pub lag-rowed : (v u : ℕ) → v < m → u < m → Rowed w (L v u)
   lag-rowed v u v-in u-in = rowed-from w (L v u) (λ a e. wide v u a v-in u-in e)
 
   pub into-rowed : (S : Totals) → Sized w m S → (v n : ℕ) → v < m → n ≤ m → Rowed w (into L S v n)

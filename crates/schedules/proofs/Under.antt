@@ -15,7 +15,7 @@ use Rattle.schedules.proofs.Optional.{Rowed, AtLeast}
 use Rattle.schedules.proofs.Rounds.{rounds-sized, opening-sized, rounds-mono}
 use Rattle.schedules.proofs.Chains.{times-of}
 
-later-under : (q o p : Option Row) → AtLeast q o → AtLeast q p → AtLeast q (later o p)
+pub later-under : (q o p : Option Row) → AtLeast q o → AtLeast q p → AtLeast q (later o p)
 later-under q None p h k = k
 later-under q (Some x) None h k = h
 later-under q (Some x) (Some y) h k = later-both (λ (z : Row). AtLeast q (Some z)) x y h k

@@ -8,7 +8,7 @@ use Rattle.std.specs.declared.option.Option.the-variants.{Some, None}
 use Rattle.rows.specs.Rows.{Row}
 use Rattle.schedules.specs.Plans.{Lags, Totals, Schedulable, Loop, Earliest, FreeBelow, Latest, FreeAbove}
 
--- the least time of an event; none where some schedule has it before any row
+-- the least time of an event; none where it is free, before every row some schedule has it
 abbrev pub Least-time : ℕ → ℕ → Lags → ℕ → Option Row → Type 0
 Least-time w m L e None = FreeBelow w m L e
 Least-time w m L e (Some r) = Earliest w m L e r
@@ -17,7 +17,7 @@ Least-time w m L e (Some r) = Earliest w m L e r
 abbrev pub Least-times : ℕ → ℕ → Lags → Totals → Type 0
 Least-times w m L x = (e : ℕ) → e < m → Least-time w m L e (x e)
 
--- the greatest time of an event; none where some schedule has it after any row
+-- the greatest time of an event; none where it is free, after every row some schedule has it
 abbrev pub Greatest-time : ℕ → ℕ → Lags → ℕ → Option Row → Type 0
 Greatest-time w m L e None = FreeAbove w m L e
 Greatest-time w m L e (Some r) = Latest w m L e r

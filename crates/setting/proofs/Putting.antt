@@ -13,6 +13,7 @@ use Rattle.std.specs.declared.option.Option.{Option}
 use Rattle.std.specs.declared.option.Option.the-variants.{Some, None}
 use Rattle.rows.specs.Rows.{Row}
 use Rattle.schedules.specs.Plans.{Lags, Schedulable, Chain, Loop, with-lag}
+use Rattle.schedules.proofs.Chains.{chain-from}
 use Rattle.tables.specs.Tables.{place, lags}
 use Rattle.tables.proofs.Places.{set-pair, set-other-pair}
 use Rattle.schedules.specs.Answers.{Loop-sought}
@@ -26,14 +27,10 @@ pub schedulable-same : (w m : ℕ) (L M : Lags) → Agree m L M → Schedulable 
 schedulable-same w m L M same s =
     (s .0, record { wide = s .1 .wide; opens = s .1 .opens; keeps = λ v u a v-in u-in e. s .1 .keeps v u a v-in u-in (same v u v-in u-in ∙ e) })
 
-chain-starts : (m : ℕ) (L : Lags) (u : ℕ) (es : List ℕ) (v : ℕ) (r : Row) → Chain m L u es v r → u < m
-chain-starts m L u [] v r c = c .0
-chain-starts m L u (t ∷ es) v r c = c .2
-
 chain-same : (m : ℕ) (L M : Lags) → Agree m L M → (u : ℕ) (es : List ℕ) (v : ℕ) (r : Row) → Chain m L u es v r → Chain m M u es v r
 chain-same m L M same u [] v r c = (c .0, c .1, sym (same v u (c .1) (c .0)) ∙ c .2)
 chain-same m L M same u (t ∷ es) v r c =
-    (c .0, c .1, c .2, sym (same t u (chain-starts m L t es v (c .1) (c .4)) (c .2)) ∙ c .3, chain-same m L M same t es v (c .1) (c .4), c .5)
+    (c .0, c .1, c .2, sym (same t u (chain-from m L es t v (c .1) (c .4)) (c .2)) ∙ c .3, chain-same m L M same t es v (c .1) (c .4), c .5)
 
 pub loop-same : (w m : ℕ) (L M : Lags) → Agree m L M → (es : List ℕ) → Loop w m L es → Loop w m M es
 loop-same w m L M same [] h = h

@@ -1,4 +1,4 @@
--- How the rounds of the search for a loop end.
+-- How the rounds that look for a loop end.
 use Prim.Native.Nat.{ℕ, _-_, _<_}
 use mathlib.Core.List.{List}
 use Rattle.std.specs.declared.option.Option.{Option}

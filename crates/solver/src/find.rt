@@ -1,4 +1,4 @@
-// The search for a loop.
+// Whether a network has a loop.
 ghost use mathlib.Core.Path.{_≡_};
 ghost use Prim.Native.Nat.{_≤_};
 ghost use lib.ListN.{length};

@@ -13,7 +13,8 @@ use network::rounds::fill_totals;
 use network::rounds::go_round;
 use rows::MOST_EVENTS;
 
-// Rounds from the opening alone, until one changes nothing. Where totals came from is not looked at.
+// Rounds from the opening alone, until one changes nothing: one fewer than there are events at most. Where totals came from is not
+// looked at.
 fn raise_from_opening<N: Network>(
     net: &N,
     count: usize,

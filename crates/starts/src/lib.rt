@@ -1,4 +1,3 @@
-// Questions about starts, finishes and due times that need no solver.
-pub mod due;
+// From starts to finishes, and what it shares with the way back from due times.
 pub mod forward;
 pub mod rows;

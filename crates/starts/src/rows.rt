@@ -27,7 +27,7 @@ pub fn arrival<K: Mark>(
 }
 
 // The time of `to` minus the lag to it from `from`.
-pub(crate) fn departure<K: Mark>(
+pub fn departure<K: Mark>(
     count: usize,
     table: &[Option<K::Lag>],
     totals: &[Option<K>],
@@ -41,12 +41,7 @@ pub(crate) fn departure<K: Mark>(
 }
 
 // Writes the start and the finish of stage k + 1.
-pub(crate) fn put_stage<K: Mark>(
-    totals: &mut [Option<K>],
-    k: usize,
-    start: Option<K>,
-    finish: Option<K>,
-)
+pub fn put_stage<K: Mark>(totals: &mut [Option<K>], k: usize, start: Option<K>, finish: Option<K>)
     requires { ⌜ 2 * k + 2 < length (now totals) ⌝ }
     ensures { λ _. ⌜ now (totals .exit) ≡ set (set (now (totals .entry)) (2 * k + 1) start) (2 * k + 2) finish ⌝ }
 {

@@ -1,3 +1,4 @@
 pub mod Meanings
 pub mod Places
 pub mod TableRule
+pub mod Writing

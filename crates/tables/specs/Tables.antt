@@ -3,7 +3,7 @@ use mathlib.Core.Path.{_≡_}
 use mathlib.Core.List.{List}
 use mathlib.Core.Logic.{_⊎_}
 use Prim.Native.Nat.{ℕ, _+_, _-_, _*_, _<_}
-use lib.ListN.{getD}
+use lib.ListN.{drop, getD}
 use Rattle.std.specs.Options.{mapped}
 use Rattle.std.specs.declared.option.Option.{Option}
 use Rattle.std.specs.declared.option.Option.the-variants.{None}
@@ -43,3 +43,7 @@ Of-stage k v = (v ≡ start k) ⊎ (v ≡ finish k)
 pub record Cleared {A : Type 0} (m : ℕ) (E : ℕ → Type 0) (table after : List (Option A)) : Type 0 where
   pub emptied : (v u : ℕ) → v < m → u < m → E v ⊎ E u → getD after (place m v u) None ≡ None
   pub kept : (v u : ℕ) → v < m → u < m → (E v ⊎ E u → ⊥) → getD after (place m v u) None ≡ getD table (place m v u) None
+
+-- the first n places hold what F says, and the others are as they were
+abbrev pub Written : {T : Type 0} → (ℕ → Option T) → ℕ → List (Option T) → List (Option T) → Type 0
+Written F n row after = ((e : ℕ) → e < n → getD after e None ≡ F e) × (drop n after ≡ drop n row)

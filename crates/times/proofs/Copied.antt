@@ -9,9 +9,8 @@ use Rattle.std.specs.declared.option.Option.the-variants.{Some, None}
 use Rattle.rows.specs.Rows.{Row}
 use Rattle.schedules.specs.Plans.{Lags}
 use Rattle.schedules.specs.Answers.{Least-time, Least-times, Greatest-time, Greatest-times}
-use Rattle.tables.specs.Tables.{times}
+use Rattle.tables.specs.Tables.{times, Written}
 use Rattle.turned.specs.declared.Turned.{Turned}
-use Rattle.times.specs.Times.{Written}
 
 module _ {T : Type 0} (w m : ℕ) (L : Lags) (row : T → Row) where
   inner-mapped : (x : Option (Turned T)) → mapped (λ t. row (t .inner)) x ≡ mapped row (mapped (λ t. t .inner) x)

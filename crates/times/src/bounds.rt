@@ -2,12 +2,12 @@
 ghost use Prim.Native.Nat.{min};
 ghost use lib.ListN.{length};
 ghost use Rattle.times.specs.Calls.{Earliest-ends, Latest-ends, Spread-ends};
-use crate::copying::copy_first;
 use crate::copying::inner_of;
 use crate::copying::turn_back;
 use checks::check_event;
 use checks::check_rows;
 use marks::kind::Mark;
+use network::rounds::copy_totals;
 use tables::fault::PlanFault;
 use tables::layout::time_at;
 use turned::Turned;
@@ -37,7 +37,7 @@ pub fn earliest<K: Mark>(
         return Err(PlanFault::Loop(len));
     }
     least_times::<K>(count, table, totals, next);
-    copy_first(count, totals, answer);
+    copy_totals(count, totals, answer);
     Ok(())
 }
 

@@ -1,23 +1,13 @@
-// From the solver's rows to the caller's.
+// From the working rows to the answer row.
 ghost use mathlib.Core.Path.{_≡_};
 ghost use Prim.Native.Nat.{_≤_};
 ghost use lib.ListN.{getD, length};
 ghost use Rattle.std.specs.Options.{mapped};
 ghost use Rattle.std.specs.declared.option.Option.the-variants.{None};
-ghost use Rattle.times.specs.Times.{Written};
+ghost use Rattle.tables.specs.Tables.{Written};
 use marks::kind::Mark;
 use turned::Turned;
 use turned::TurnedMark;
-
-// Copies the first places.
-pub(crate) fn copy_first<K: Mark>(count: usize, source: &[Option<K>], totals: &mut [Option<K>])
-    requires { ⌜ count ≤ length (now source) ⌝ ∗ ⌜ count ≤ length (now totals) ⌝ }
-    ensures { λ _. ⌜ Written (λ e. getD (now (source .entry)) e None) count (now (totals .entry)) (now (totals .exit)) ⌝ }
-{
-    for event in 0..count {
-        totals[event] = source[event];
-    }
-}
 
 // The inner totals of the first places.
 pub(crate) fn turn_back<K: Mark>(

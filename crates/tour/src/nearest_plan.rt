@@ -10,7 +10,7 @@ use tables::layout::put_lag;
 
 const EVENTS: usize = 5;
 
-// Both finishes come 5 after both starts.
+// Both finishes come at least 5 after both starts.
 fn lay_lags(table: &mut [Option<MinutesLag>]) {
     for (to, from) in [(2, 1), (2, 3), (4, 1), (4, 3)] {
         if let Ok(lag) = Minutes::make_lag(&[5]) {

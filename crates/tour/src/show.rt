@@ -44,7 +44,7 @@ pub fn show_times(
     println!(rt, "")
 }
 
-// As above, and the loop under 14.
+// How a set ended, with the loop under 14.
 pub fn show_set(
     rt: &LibcRuntime,
     outcome: Result<(), PlanFault>,

@@ -1,2 +1,1 @@
 pub mod Opposites
-pub mod Twice

@@ -8,8 +8,6 @@ use marks::fault::MarkFault;
 use marks::kind::Mark;
 use std::cmp::Ordering;
 
-pub mod twice;
-
 #[derive(Clone, Copy, Debug)]
 pub struct Turned<M> {
     pub inner: M,

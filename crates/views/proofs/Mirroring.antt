@@ -1,8 +1,7 @@
 -- The least times of the reversed plan over turned marks are the greatest times of the plan.
-use mathlib.Core.Path.{_≡_}
 use mathlib.Core.List.{List}
 use Prim.Native.Nat.{ℕ}
-use lib.ListN.{length, getD}
+use lib.ListN.{getD}
 use Rattle.std.specs.Options.{mapped}
 use Rattle.std.specs.declared.option.Option.{Option}
 use Rattle.std.specs.declared.option.Option.the-variants.{Some, None}
@@ -10,12 +9,8 @@ use Rattle.rows.specs.Rows.{Row, negated}
 use Rattle.schedules.specs.Plans.{Lags, Wide, reversed}
 use Rattle.schedules.proofs.Mirrored.{mirrored-latest, mirrored-free}
 use Rattle.schedules.specs.Answers.{Least-time, Least-times, Greatest-time, Greatest-times}
-use Rattle.tables.specs.Tables.{lags, times}
-use Rattle.tables.proofs.Meanings.{table-holds}
+use Rattle.tables.specs.Tables.{times}
 use Rattle.turned.specs.declared.Turned.{Turned}
-
-pub table-wide : {A : Type 0} (w m : ℕ) (amount : A → Row) (table : List (Option A)) → ((lag : A) → length (amount lag) ≡ w) → Wide w m (lags amount m table)
-table-wide w m amount table wide v u a v-in u-in e = table-holds (λ r. length r ≡ w) amount wide m table v u a e
 
 module _ {T : Type 0} (w m : ℕ) (L : Lags) (wide : Wide w m L) (row : T → Row) where
   mirrored : (e : ℕ) (x : Option (Turned T)) → Least-time w m (reversed L) e (mapped (λ t. negated (row (t .inner))) x) → Greatest-time w m L e (mapped (λ t. row (t .inner)) x)

@@ -25,16 +25,16 @@ limited-net w m L some few wide limited = record {
       (λ v u t a v-in u-in. sums-inside lag-limit m L limited (opening w) (opening-inside w m) total-limit k (omega arith) (few-fit m few) v u t a v-in u-in, λ v u t a v-in u-in. sums-inside lag-limit m L limited (everywhere w) (everywhere-inside w m) total-limit k (omega arith) (few-fit m few) v u t a v-in u-in);
 }
 
-module _ {A : Type 0} (w m : ℕ) (amount : A → Row) (table : List (Option A)) (wide : (lag : A) → length (amount lag) ≡ w) (limited : (lag : A) → Within lag-limit (amount lag)) (some : 1 ≤ m) (few : m ≤ 63) where
-  wide-lags : Wide w m (lags amount m table)
-  wide-lags v u a v-in u-in e = table-holds (λ r. length r ≡ w) amount wide m table v u a e
+pub table-wide : {A : Type 0} (w m : ℕ) (amount : A → Row) (table : List (Option A)) → ((lag : A) → length (amount lag) ≡ w) → Wide w m (lags amount m table)
+table-wide w m amount table wide v u a v-in u-in e = table-holds (λ r. length r ≡ w) amount wide m table v u a e
 
+module _ {A : Type 0} (w m : ℕ) (amount : A → Row) (table : List (Option A)) (wide : (lag : A) → length (amount lag) ≡ w) (limited : (lag : A) → Within lag-limit (amount lag)) (some : 1 ≤ m) (few : m ≤ 63) where
   limited-lags : Limited lag-limit m (lags amount m table)
   limited-lags v u a v-in u-in e = table-holds (Within lag-limit) amount limited m table v u a e
 
   pub table-net : Net w m (lags amount m table)
-  table-net = limited-net w m (lags amount m table) some few wide-lags limited-lags
+  table-net = limited-net w m (lags amount m table) some few (table-wide w m amount table wide) limited-lags
 
   pub reversed-net : Net w m (reversed (lags amount m table))
   reversed-net =
-      limited-net w m (reversed (lags amount m table)) some few (λ v u a v-in u-in e. wide-lags u v a u-in v-in e) (λ v u a v-in u-in e. limited-lags u v a u-in v-in e)
+      limited-net w m (reversed (lags amount m table)) some few (λ v u a v-in u-in e. table-wide w m amount table wide u v a u-in v-in e) (λ v u a v-in u-in e. limited-lags u v a u-in v-in e)

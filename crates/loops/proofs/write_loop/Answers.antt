@@ -1,6 +1,6 @@
 use mathlib.Core.Path.{refl}
 use native.Mathlib.Omega.{arith}
-use Rattle.loops.proofs.Turning.{turned-same, low-of-walk}
+use Rattle.loops.proofs.Rotating.{rotated-same, low-of-walk}
 use Rattle.loops.proofs.write_loop.Needs as need
 
 pub returns : need.returns
@@ -17,5 +17,5 @@ returns c =
       after-first = low .after;
       to-last = low .within;
       least = low-of-walk _ _ _ _ _ holds low;
-      turned-in = turned-same _ _ _ _ _ _ _ (omega (arith, met .order)) holds (c .write-turned .ensures);
+      rotated-in = rotated-same _ _ _ _ _ _ _ (omega (arith, met .order)) holds (c .write-rotated .ensures);
     }

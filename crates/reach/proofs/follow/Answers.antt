@@ -5,7 +5,7 @@ use Prim.Native.Nat.{ℕ, _+_}
 use native.Mathlib.Omega.{arith}
 use Rattle.std.specs.Options.{isSome}
 use Rattle.tables.specs.Tables.{lags}
-use Rattle.reach.proofs.Marks.{Followed-below, stands-from, stands-not, followed-none, followed-stand, followed-skip, followed-all}
+use Rattle.reach.proofs.Ticking.{Followed-below, stands-from, stands-not, followed-none, followed-stand, followed-skip, followed-all}
 use Rattle.reach.proofs.follow.Needs as need
 use Rattle.reach.proofs.follow.Needs.{then-is-some, else-is-some}
 

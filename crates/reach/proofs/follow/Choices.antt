@@ -1,5 +1,5 @@
 use Rattle.tables.specs.Tables.{lags}
-use Rattle.reach.proofs.Marks.{Followed-below}
+use Rattle.reach.proofs.Ticking.{Followed-below}
 use Rattle.reach.proofs.follow.Given as given
 
 abbrev pub Inv-loop-to : given.InvT-loop-to

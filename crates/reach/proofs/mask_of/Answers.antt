@@ -8,7 +8,7 @@ use lib.Dec.{eqb}
 use lib.ListN.{getD}
 use Rattle.std.proofs.shelf.Bits.{one-shl}
 use Rattle.std.proofs.shelf.Tests.{ne-eqb, eq-eqb, and-right, and-left, and-from, not-from-false, not-from-true}
-use Rattle.reach.specs.Marking.{mask-of}
+use Rattle.reach.specs.Ticks.{mask-of}
 use Rattle.reach.proofs.Masks.{mask-more, mask-same}
 use Rattle.reach.proofs.mask_of.Needs as need
 use Rattle.reach.proofs.mask_of.Needs.{then-v-event·then-reached-v, else-v-event, else-v-event·by·then-v-event·else-reached-v, else-v-event·by·else-v-event}

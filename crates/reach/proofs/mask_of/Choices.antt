@@ -2,7 +2,7 @@ use mathlib.Core.Path.{_≡_}
 use mathlib.Core.Bool.{false, _&&_, not}
 use lib.Dec.{eqb}
 use lib.ListN.{getD}
-use Rattle.reach.specs.Marking.{mask-of}
+use Rattle.reach.specs.Ticks.{mask-of}
 use Rattle.reach.proofs.mask_of.Given as given
 
 abbrev pub Inv-loop-v : given.InvT-loop-v

@@ -4,7 +4,7 @@ use native.Mathlib.Omega.{arith}
 use lib.ListN.{replicate}
 use Rattle.std.proofs.shelf.Lists.{length-set}
 use Rattle.tables.specs.Tables.{lags}
-use Rattle.reach.proofs.Marks.{following-first, following-more, following-all, unmarked-falls, none-marked}
+use Rattle.reach.proofs.Ticking.{following-first, following-more, following-all, unmarked-falls, none-marked}
 use Rattle.reach.proofs.reach.Needs as need
 
 pub loop-u-holds : need.loop-u-holds

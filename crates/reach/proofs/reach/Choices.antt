@@ -1,7 +1,7 @@
 use mathlib.Core.Path.{_≡_}
 use lib.ListN.{length}
 use Rattle.tables.specs.Tables.{lags}
-use Rattle.reach.proofs.Marks.{Following, unmarked}
+use Rattle.reach.proofs.Ticking.{Following, unmarked}
 use Rattle.reach.proofs.reach.Given as given
 
 abbrev pub Inv-loop-u : given.InvT-loop-u

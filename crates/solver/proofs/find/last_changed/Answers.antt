@@ -21,7 +21,7 @@ pub loop-done-again : need.loop-done-again
 loop-done-again g c =
     let row = g .Kind·Mark .row in
     let went = c .in-Continue-last .ensures tt in
-    rounds-more _ (c .pre .lags .few) _ _ (c .loop-done .done) (times row (c .loop-done .totals)) (times row (c .go-round .last .next)) _ (c .loop-done .sources) (c .go-round .last .sources) _ (c .in-Continue-last .last) (c .loop-done .inv) (went .went) (went .kept) (copied-alike _ row (c .go-round .last .next) (c .copy-totals .last .to) (c .copy-totals .ensures))
+    rounds-more _ (c .pre .lags .few) _ _ (c .loop-done .done) (times row (c .loop-done .totals)) (times row (c .go-round .last .next)) _ (c .loop-done .sources) (c .go-round .last .sources) _ (c .in-Continue-last .last) (c .loop-done .inv) (went .went) (went .kept) (copied-alike _ row (c .go-round .last .next) (c .copy-totals .last .to) (c .copy-totals .ensures .0))
 
 pub returns-in-Break-last : need.returns-in-Break-last
 returns-in-Break-last g c =

@@ -23,7 +23,7 @@ returns-then-is-none g c =
 
 pub loop-done-again : need.loop-done-again
 loop-done-again g c =
-    next-alike _ _ _ (times (g .Kind·Mark .row) (c .loop-done .totals)) (times (g .Kind·Mark .row) (c .go-round .last .next)) _ _ (c .go-round .result) (c .loop-done .-done) (c .loop-done .inv) (c .go-round .ensures .went) (copied-alike _ (g .Kind·Mark .row) (c .go-round .last .next) (c .copy-totals .last .to) (c .copy-totals .ensures))
+    next-alike _ _ _ (times (g .Kind·Mark .row) (c .loop-done .totals)) (times (g .Kind·Mark .row) (c .go-round .last .next)) _ _ (c .go-round .result) (c .loop-done .-done) (c .loop-done .inv) (c .go-round .ensures .went) (copied-alike _ (g .Kind·Mark .row) (c .go-round .last .next) (c .copy-totals .last .to) (c .copy-totals .ensures .0))
 
 pub returns : need.returns
 returns g c =

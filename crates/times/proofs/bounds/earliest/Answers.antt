@@ -22,5 +22,5 @@ returns g c =
     let m = c .in-Continue-count .count in
     let passed = c .in-Continue-count .ensures tt in
     let has = granted (K .wide) m _ (λ m. lags (K .amount) m (c .args .table .now)) (passed .1 .0 .count) (c .args .loop-row .now) (c .contradiction .last .loop-row) (c .in-rest .ensures tt) in
-    let P : ℕ → Type 0 = λ k. Least-times (K .wide) k (lags (K .amount) k (c .args .table .now)) (times (K .row) (c .copy-first .last .totals)) × (drop k (c .copy-first .last .totals) ≡ drop k (c .args .answer .now)) in
-    (search needs, (has .0, (subst P (passed .1 .0 .count) (copied (K .wide) m (lags (K .amount) m (c .args .table .now)) (K .row) (c .least-times .last .totals) (c .args .answer .now) (c .copy-first .last .totals) (c .least-times .ensures) (c .copy-first .ensures), c .copy-first .ensures .1), has .1)))
+    let P : ℕ → Type 0 = λ k. Least-times (K .wide) k (lags (K .amount) k (c .args .table .now)) (times (K .row) (c .copy-totals .last .to)) × (drop k (c .copy-totals .last .to) ≡ drop k (c .args .answer .now)) in
+    (search needs, (has .0, (subst P (passed .1 .0 .count) (copied (K .wide) m (lags (K .amount) m (c .args .table .now)) (K .row) (c .least-times .last .totals) (c .args .answer .now) (c .copy-totals .last .to) (c .least-times .ensures) (c .copy-totals .ensures), c .copy-totals .ensures .1), has .1)))

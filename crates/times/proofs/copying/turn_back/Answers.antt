@@ -6,7 +6,7 @@ use borrow.Author.Needs.{needs}
 use Rattle.std.proofs.shelf.Lists.{getD-read}
 use Rattle.std.specs.Options.{mapped}
 use Rattle.std.specs.declared.option.Option.the-variants.{None}
-use Rattle.times.proofs.Writing.{written-none, written-more, written-all}
+use Rattle.tables.proofs.Writing.{written-none, written-more, written-all}
 use Rattle.times.proofs.copying.turn_back.Needs as need
 
 pub loop-event-holds : need.loop-event-holds

@@ -1,7 +1,7 @@
 use lib.ListN.{getD}
 use Rattle.std.specs.Options.{mapped}
 use Rattle.std.specs.declared.option.Option.the-variants.{None}
-use Rattle.times.specs.Times.{Written}
+use Rattle.tables.specs.Tables.{Written}
 use Rattle.times.proofs.copying.turn_back.Given as given
 
 abbrev pub Inv-loop-event : given.InvT-loop-event

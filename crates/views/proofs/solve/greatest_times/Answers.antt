@@ -1,6 +1,7 @@
 use Rattle.schedules.proofs.Mirrored.{mirrored-schedulable}
 use Rattle.tables.specs.Tables.{lags}
-use Rattle.views.proofs.Mirroring.{table-wide, greatest-from}
+use Rattle.views.proofs.Mirroring.{greatest-from}
+use Rattle.views.proofs.Views.{table-wide}
 use Rattle.views.proofs.solve.greatest_times.Needs as need
 
 pub settle-requires : need.settle-requires

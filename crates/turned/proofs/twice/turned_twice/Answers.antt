@@ -1,6 +1,0 @@
-use mathlib.Core.Path.{refl}
-use Rattle.turned.proofs.TurningTwice.{turning-twice}
-use Rattle.turned.proofs.twice.turned_twice.Needs as need
-
-pub returns : need.returns
-returns g c = record { value = refl; meaning = turning-twice (g .M·Mark) .meaning (c .args .total); every = turning-twice (g .M·Mark) }
