@@ -6,12 +6,12 @@ pub fn schedule_or_loop()
     ensures { λ _. ⌜ Schedule-or-loop ⌝ }
 {}
 
-// The later and the earlier of two schedules' times keep the lags, and so do times shifted alike.
+// The later and the earlier of two times that keep the lags keep them, and so do times all shifted alike.
 pub fn times_combine()
     ensures { λ _. ⌜ Times-combine ⌝ }
 {}
 
-// Totals from the opening settle, and are then the least times; an event that they do not reach has none.
+// Of a plan that has a schedule, totals from the opening settle and are then the least times; an event that they do not reach has none.
 // In the plan with its lags the other way round they are the greatest, with every sign changed.
 pub fn times_are_exact()
     ensures least { λ _. ⌜ Times-are-exact ⌝ }
@@ -23,7 +23,8 @@ pub fn reversal_mirrors()
     ensures { λ _. ⌜ Reversal-mirrors ⌝ }
 {}
 
-// Totals stay inside the limits.
+// So many rounds go no further than so many times the lags' limit, so that sums stay inside where there is room for one lag more than
+// events.
 pub fn sums_stay_inside()
     ensures { λ _. ⌜ Sums-stay-inside ⌝ }
 {}

@@ -71,27 +71,23 @@ module _ (w m : ℕ) (L : Lags) (net : Net w m L) (some : 1 ≤ w) (plan : Sched
   settled-least : (k : ℕ) (S : Totals) → Alike m S (rounds m L (opening w) k) → Settled m L (opening w) k → Least-times w m L S
   settled-least k S same f e e-in = settled-time k f e e-in (S e) (sym (same e e-in))
 
--- totals of round k from the opening
-
-module _ (w m : ℕ) (L : Lags) (net : Net w m L) (some : 1 ≤ w) (plan : Schedulable w m L) (k : ℕ) (S : Totals) (same : Alike m S (rounds m L (opening w) k)) where
-  -- a round that changes nothing
-  pub still-least : (R : Totals) (from : ℕ → ℕ) (changed : Option ℕ) → isSome changed ≡ false → Went-round m m L S R from changed → Least-times w m L S
-  still-least R from changed f went =
-      settled-least w m L net some plan k S same (round-settled m L (opening w) S R from changed k same went (none-changed m S R changed f (went .tells)))
-
-  -- as many rounds as settle any plan with a schedule
-  pub enough-least : m ≤ k + 1 → Least-times w m L S
-  enough-least le =
-      settled-least w m L net some plan k S same (opening-settles w m L (net .wide) (net .some) plan k (omega arith))
-
 -- the program's count n is the size m
 
-module _ (w n m : ℕ) (L : Lags) (e : n ≡ m) where
-  pub counted-net : Net w m L → Net w n L
-  counted-net net = subst (λ (i : ℕ). Net w i L) (sym e) net
+pub counted-net : (w n m : ℕ) (L : Lags) → n ≡ m → Net w m L → Net w n L
+counted-net w n m L e net = subst (λ (i : ℕ). Net w i L) (sym e) net
 
-  pub counted-schedulable : Schedulable w m L → Schedulable w n L
-  counted-schedulable plan = subst (λ (i : ℕ). Schedulable w i L) (sym e) plan
+module _ (w n m : ℕ) (L : Lags) (e : n ≡ m) (net : Net w m L) (some : 1 ≤ w) (plan : Schedulable w m L) (k : ℕ) (S : Totals) (same : Alike n S (rounds n L (opening w) k)) where
+  counted-least : Settled n L (opening w) k → Least-times w m L S
+  counted-least f =
+      subst (λ (i : ℕ). Least-times w i L S) e (settled-least w n L (counted-net w n m L e net) some (subst (λ (i : ℕ). Schedulable w i L) (sym e) plan) k S same f)
 
-  pub counted-least : (S : Totals) → Least-times w n L S → Least-times w m L S
-  counted-least S least = subst (λ (i : ℕ). Least-times w i L S) e least
+  -- a round that changes nothing
+  pub still-least : (R : Totals) (from : ℕ → ℕ) (changed : Option ℕ) → isSome changed ≡ false → Went-round n n L S R from changed → Least-times w m L S
+  still-least R from changed f went =
+      counted-least (round-settled n L (opening w) S R from changed k same went (none-changed n S R changed f (went .tells)))
+
+  -- as many rounds as settle any plan with a schedule
+  pub enough-least : n ≤ k + 1 → Least-times w m L S
+  enough-least le =
+      let counted = counted-net w n m L e net in
+      counted-least (opening-settles w n L (counted .wide) (counted .some) (subst (λ (i : ℕ). Schedulable w i L) (sym e) plan) k (omega arith))

@@ -1,9 +1,7 @@
 // The least time of every event.
-ghost use mathlib.Core.Path.{_≡_};
 ghost use Prim.Native.Nat.{_≤_};
 ghost use lib.ListN.{length};
 ghost use Rattle.schedules.specs.Plans.{Schedulable};
-ghost use Rattle.network.specs.Networks.{Net};
 ghost use Rattle.tables.specs.Tables.{times};
 ghost use Rattle.schedules.specs.Answers.{Least-times};
 use marks::kind::Mark;
@@ -13,32 +11,8 @@ use network::rounds::fill_totals;
 use network::rounds::go_round;
 use rows::MOST_EVENTS;
 
-// Rounds from the opening alone, until one changes nothing: one fewer than there are events at most. Where totals came from is not
-// looked at.
-fn raise_from_opening<N: Network>(
-    net: &N,
-    count: usize,
-    totals: &mut [Option<N::Kind>],
-    next: &mut [Option<N::Kind>],
-    sources: &mut [u8],
-)
-    requires ready { ⌜ sound (now net) ⌝ ∗ ⌜ count ≡ size (now net) ⌝ }
-    requires lags { ⌜ Net (Kind·Mark .wide) count (weight (now net)) ⌝ }
-    requires places { ⌜ count ≤ length (now totals) ⌝ ∗ ⌜ count ≤ length (now next) ⌝ ∗ ⌜ length (now sources) ≡ 63 ⌝ }
-    requires schedules { ⌜ Schedulable (Kind·Mark .wide) count (weight (now net)) ⌝ }
-    ensures { λ _. ⌜ Least-times (Kind·Mark .wide) count (weight (now (net .entry))) (times (Kind·Mark .row) (now (totals .exit))) ⌝ }
-{
-    fill_totals(count, totals, None);
-    totals[0] = Some(N::Kind::zero());
-    for _done in 0..count - 1 {
-        if go_round(net, count, totals, next, sources, 0).is_none() {
-            return;
-        }
-        copy_totals(count, next, totals);
-    }
-}
-
-// The least time of every event, in the first places of `totals`. `next` is working memory.
+// Rounds from the opening alone, until one changes nothing: one fewer than there are events at the most. The totals are then the least
+// times; `next` is working memory.
 pub fn settle<N: Network>(net: &N, totals: &mut [Option<N::Kind>], next: &mut [Option<N::Kind>])
     requires network { ⌜ sound (now net) ⌝ }
     requires places { ⌜ size (now net) ≤ length (now totals) ⌝ ∗ ⌜ size (now net) ≤ length (now next) ⌝ }
@@ -47,5 +21,12 @@ pub fn settle<N: Network>(net: &N, totals: &mut [Option<N::Kind>], next: &mut [O
 {
     let count = net.events();
     let mut sources = [0; MOST_EVENTS];
-    raise_from_opening(net, count, totals, next, &mut sources)
+    fill_totals(count, totals, None);
+    totals[0] = Some(N::Kind::zero());
+    for _done in 0..count - 1 {
+        if go_round(net, count, totals, next, &mut sources, 0).is_none() {
+            return;
+        }
+        copy_totals(count, next, totals);
+    }
 }
