@@ -1,4 +1,6 @@
 // The max-plus algebra: what the calls answer, as products, powers and residuals of matrices.
+#![tactic(auto)]
+
 ghost use Rattle.tables.specs.Tables.{lags, times};
 ghost use Rattle.algebra.specs.Theorems.{Width, Widths, RoundsArePowers, EarliestIsStar, LatestIsStar, FinishIsProduct, BackwardIsResidual, ClosestIsResidual};
 
@@ -6,12 +8,12 @@ use marks::kind::Mark;
 
 // Every amount of a table has the kind's width.
 pub fn amounts_have_the_width<K: Mark>(count: usize, table: &[Option<K::Lag>])
-    ensures { Widths wide (lags amount count table.now) }
+    ensures { Widths K.Mark.wide (lags K.Mark.amount count table.now) }
 {}
 
 // So has every total of a row.
 pub fn totals_have_the_width<K: Mark>(totals: &[Option<K>])
-    ensures { Width wide (times row totals.now) }
+    ensures { Width K.Mark.wide (times K.Mark.row totals.now) }
 {}
 
 // The solver's rounds are sums of powers.

@@ -1,4 +1,6 @@
 // The checks that calls share, in the order of their numbers.
+#![tactic(auto)]
+
 ghost use Rattle.std.specs.Prelude.{◌≡◌, ◌+◌, ◌*◌, ◌^◌, ◌<◌, ◌≤◌, not, [], ◌∷◌};
 ghost use Rattle.tables.specs.Checks.{Ended, check, table_checks, row_checks, event_missed, stage_missed, total_missed, totals_missed, AllGiven, Laid};
 ghost use Rattle.tables.specs.Tables.{times};
@@ -52,7 +54,7 @@ pub fn check_stage(stages: usize, stage: usize) -> Result<(), PlanFault>
 
 // Whether a total stands there that is within the limit of given totals.
 fn has_given<K: Mark>(totals: &[Option<K>], at: usize) -> bool
-    ensures { result ≡ not (total_missed (times row totals.now at)) }
+    ensures { result ≡ not (total_missed (times K.Mark.row totals.now at)) }
 {
     if at >= totals.len() {
         return false;
@@ -71,7 +73,7 @@ pub fn check_totals<K: Mark>(
     step: usize,
     count: usize,
 ) -> Result<(), PlanFault>
-    ensures { first + step * count < 2 ^ 64 → Ended (check 12 (totals_missed (times row totals.now) first step count) ∷ []) (λ _. AllGiven (times row totals.now) first step count) (Unit {0}) result }
+    ensures { first + step * count < 2 ^ 64 → Ended (check 12 (totals_missed (times K.Mark.row totals.now) first step count) ∷ []) (λ _. AllGiven (times K.Mark.row totals.now) first step count) (Unit {0}) result }
 {
     for k in 0..count {
         if !has_given(totals, first.wrapping_add(step.wrapping_mul(k))) {

@@ -1,4 +1,6 @@
 // closest: from due times to the starts whose finishes miss them least.
+#![tactic(auto)]
+
 ghost use Rattle.std.specs.Prelude.{◌≡◌, ◌+◌, ◌*◌, ◌<◌, ◌≤◌, length, drop};
 ghost use Rattle.std.specs.Option.{option_map};
 ghost use Rattle.tables.specs.Tables.{events, lags, times};
@@ -20,7 +22,7 @@ mod served;
 
 // The first part of a total, and 0 where there is none.
 fn minute_of<K: Mark>(total: Option<K>) -> i64
-    ensures { result ≡ minute (option_map row total) }
+    ensures { result ≡ minute (option_map K.Mark.row total) }
 {
     match total {
         Some(time) => time.part(0).unwrap_or(0),
@@ -35,8 +37,8 @@ fn finish_of<K: Mark>(
     starts: &[Option<K>],
     to: usize,
 ) -> Option<K>
-    requires { (stages ≤ 31) × ((to < events stages) × (StartsInside stages (times row starts.now))) }
-    ensures { option_map row result ≡ finish_of stages (lags amount (events stages) table.now) (times row starts.now) to }
+    requires { (stages ≤ 31) × ((to < events stages) × (StartsInside stages (times K.Mark.row starts.now))) }
+    ensures { option_map K.Mark.row result ≡ finish_of stages (lags K.Mark.amount (events stages) table.now) (times K.Mark.row starts.now) to }
 {
     let count = 2 * stages + 1;
     let mut latest = None;
@@ -55,8 +57,8 @@ fn largest_miss<K: Mark>(
     due: &[Option<K>],
     starts: &[Option<K>],
 ) -> u64
-    requires { (stages ≤ 31) × (StartsInside stages (times row starts.now)) }
-    ensures { result ≡ largest stages (miss stages (lags amount (events stages) table.now) (times row due.now) (times row starts.now)) }
+    requires { (stages ≤ 31) × (StartsInside stages (times K.Mark.row starts.now)) }
+    ensures { result ≡ largest stages (miss stages (lags K.Mark.amount (events stages) table.now) (times K.Mark.row due.now) (times K.Mark.row starts.now)) }
 {
     let mut worst: u64 = 0;
     for j in 0..stages {
@@ -80,8 +82,8 @@ fn write_moved<K: Mark>(
     distance: u64,
     starts: &mut [Option<K>],
 )
-    requires { (stages ≤ 31) × ((wide ≡ 1) × ((MovedFits stages (times row latest.now) distance) × (events stages ≤ length starts.old))) }
-    ensures { Moved stages (times row latest.now) distance (times row starts.new) × (drop (events stages) starts.new ≡ drop (events stages) starts.old) }
+    requires { (stages ≤ 31) × ((K.Mark.wide ≡ 1) × ((MovedFits stages (times K.Mark.row latest.now) distance) × (events stages ≤ length starts.old))) }
+    ensures { Moved stages (times K.Mark.row latest.now) distance (times K.Mark.row starts.new) × (drop (events stages) starts.new ≡ drop (events stages) starts.old) }
 {
     starts[0] = None;
     for k in 0..stages {
@@ -99,8 +101,8 @@ fn write_closest<K: Mark>(
     latest: &[Option<K>],
     starts: &mut [Option<K>],
 ) -> u64
-    requires { (stages ≤ 31) × ((wide ≡ 1) × ((Ready stages (lags amount (events stages) table.now) (times row due.now) (times row latest.now)) × (events stages ≤ length starts.old))) }
-    ensures { Closest stages (lags amount (events stages) table.now) (times row due.now) (times row starts.new) result × (drop (events stages) starts.new ≡ drop (events stages) starts.old) }
+    requires { (stages ≤ 31) × ((K.Mark.wide ≡ 1) × ((Ready stages (lags K.Mark.amount (events stages) table.now) (times K.Mark.row due.now) (times K.Mark.row latest.now)) × (events stages ≤ length starts.old))) }
+    ensures { Closest stages (lags K.Mark.amount (events stages) table.now) (times K.Mark.row due.now) (times K.Mark.row starts.new) result × (drop (events stages) starts.new ≡ drop (events stages) starts.old) }
 {
     let distance = half_up(largest_miss::<K>(stages, table, due, latest));
     write_moved::<K>(stages, latest, distance, starts);

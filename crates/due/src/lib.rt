@@ -1,4 +1,6 @@
 // backward: from due times back to the greatest starts.
+#![tactic(auto)]
+
 ghost use Rattle.std.specs.Prelude.{◌≡◌, ◌<◌, ◌≤◌, length, drop};
 ghost use Rattle.std.specs.Option.{option_map};
 ghost use Rattle.rows.specs.Extremes.{EarliestOf, Among};
@@ -10,7 +12,7 @@ ghost use Rattle.starts.specs.Starts.{Backward};
 
 use checks::{check_rows, check_totals};
 use marks::kind::Mark;
-use starts::rows::{departure, put_stage};
+use starts::arrivals::{departure, put_stage};
 use tables::fault::PlanFault;
 use totals::choice::earlier_of;
 
@@ -21,8 +23,8 @@ fn earliest_departure<K: Mark>(
     due: &[Option<K>],
     from: usize,
 ) -> Option<K>
-    requires { (stages ≤ 31) × ((from < events stages) × (AllGiven (times row due.now) 2 2 stages)) }
-    ensures { EarliestOf (Among stages (λ j. taken (times row due.now (finish j)) (lags amount (events stages) table.now (finish j) from))) (option_map row result) }
+    requires { (stages ≤ 31) × ((from < events stages) × (AllGiven (times K.Mark.row due.now) 2 2 stages)) }
+    ensures { EarliestOf (Among stages (λ j. taken (times K.Mark.row due.now (finish j)) (lags K.Mark.amount (events stages) table.now (finish j) from))) (option_map K.Mark.row result) }
 {
     let count = 2 * stages + 1;
     let mut earliest = None;
@@ -38,8 +40,8 @@ fn write_starts<K: Mark>(
     due: &[Option<K>],
     starts: &mut [Option<K>],
 )
-    requires { (stages ≤ 31) × ((AllGiven (times row due.now) 2 2 stages) × (events stages ≤ length starts.old)) }
-    ensures { Backward wide stages (lags amount (events stages) table.now) (times row due.now) (times row starts.new) × (drop (events stages) starts.new ≡ drop (events stages) starts.old) }
+    requires { (stages ≤ 31) × ((AllGiven (times K.Mark.row due.now) 2 2 stages) × (events stages ≤ length starts.old)) }
+    ensures { Backward K.Mark.wide stages (lags K.Mark.amount (events stages) table.now) (times K.Mark.row due.now) (times K.Mark.row starts.new) × (drop (events stages) starts.new ≡ drop (events stages) starts.old) }
 {
     starts[0] = None;
     for stage in 0..stages {
@@ -55,7 +57,7 @@ pub fn backward<K: Mark>(
     due: &[Option<K>],
     starts: &mut [Option<K>],
 ) -> Result<(), PlanFault>
-    ensures { BackwardEnds wide amount row stages table.now due.now starts.old starts.new result }
+    ensures { BackwardEnds K.Mark.wide K.Mark.amount K.Mark.row stages table.now due.now starts.old starts.new result }
 {
     let _ = check_rows(stages, table.len(), due.len().min(starts.len()))?;
     check_totals(due, 2, 2, stages)?;

@@ -1,4 +1,6 @@
 // The edits of a table that need no solver: open, drop and void.
+#![tactic(auto)]
+
 ghost use Rattle.std.specs.Prelude.{◌≡◌, ◌*◌, ◌<◌, ◌≤◌, length, None};
 ghost use Rattle.edits.specs.Calls.{OpenEnds, DropEnds, VoidEnds};
 ghost use Rattle.tables.specs.Tables.{Cleared};

@@ -1,4 +1,6 @@
 // check: whether a row of times keeps every lag.
+#![tactic(auto)]
+
 ghost use Rattle.std.specs.Prelude.{◌<◌, ◌≤◌, Decides};
 ghost use Rattle.tables.specs.Checks.{AllGiven, Given};
 ghost use Rattle.tables.specs.Tables.{lags, times};
@@ -7,7 +9,7 @@ ghost use Rattle.keeping.specs.Keeping.{Breaks, FirstBroken};
 
 use checks::{check_rows, check_totals};
 use marks::kind::Mark;
-use starts::rows::arrival;
+use starts::arrivals::arrival;
 use std::cmp::Ordering;
 use tables::fault::PlanFault;
 use tables::layout::time_at;
@@ -20,8 +22,8 @@ fn breaks<K: Mark>(
     to: usize,
     from: usize,
 ) -> bool
-    requires { (count ≤ 63) × ((to < count) × ((from < count) × (Given (times row totals.now from)))) }
-    ensures { Decides result (Breaks (lags amount count table.now) (times row totals.now) to from) }
+    requires { (count ≤ 63) × ((to < count) × ((from < count) × (Given (times K.Mark.row totals.now from)))) }
+    ensures { Decides result (Breaks (lags K.Mark.amount count table.now) (times K.Mark.row totals.now) to from) }
 {
     let Some(time) = time_at(totals, to) else {
         return false;
@@ -41,8 +43,8 @@ fn first_broken<K: Mark>(
     table: &[Option<K::Lag>],
     totals: &[Option<K>],
 ) -> Option<(usize, usize)>
-    requires { (count ≤ 63) × (AllGiven (times row totals.now) 0 1 count) }
-    ensures { FirstBroken count (lags amount count table.now) (times row totals.now) result }
+    requires { (count ≤ 63) × (AllGiven (times K.Mark.row totals.now) 0 1 count) }
+    ensures { FirstBroken count (lags K.Mark.amount count table.now) (times K.Mark.row totals.now) result }
 {
     let mut broken = None;
     'table: for to in 0..count {
@@ -62,7 +64,7 @@ pub fn check<K: Mark>(
     table: &[Option<K::Lag>],
     totals: &[Option<K>],
 ) -> Result<Option<(usize, usize)>, PlanFault>
-    ensures { CheckEnds amount row stages table.now totals.now result }
+    ensures { CheckEnds K.Mark.amount K.Mark.row stages table.now totals.now result }
 {
     let count = check_rows(stages, table.len(), totals.len())?;
     check_totals(totals, 0, 1, count)?;

@@ -1,4 +1,6 @@
 // The walk back from an event that the last round changed, and the loop that it closes.
+#![tactic(auto)]
+
 ghost use Rattle.std.specs.Prelude.{◌≡◌, ◌<◌, ◌≤◌, length};
 ghost use Rattle.loops.specs.Trails.{back, Holds, Leads, LowUnder, MetTwice, on, PlaceOf, RotatedIn, Written};
 

@@ -1,4 +1,6 @@
 // Minutes: one part.
+#![tactic(auto)]
+
 ghost use Rattle.marks.specs.Meaning.{clamped};
 ghost use Rattle.std.specs.Prelude.{[], ◌∷◌};
 ghost use Rattle.rows.specs.Limits.{lag_limit, total_limit};

@@ -1,6 +1,6 @@
 -- One event raised, lag by lag.
-use Rattle.std.proofs.Common.{◌≡◌, ℕ, suc, ◌+◌, ◌<◌, Bool, true, false, Some, None, Option, Ordering, Less, Equal, Greater, sym, refl, ap, ◌∙◌, subst, add-one, arith}
-use Rattle.std.specs.Ordering.{MatchOrdering}
+use Rattle.std.proofs.Common.{◌≡◌, ℕ, suc, ◌+◌, ◌<◌, ◌==◌, Bool, true, false, Some, None, Option, Ordering, Less, Equal, Greater, sym, refl, ap, ◌∙◌, subst, add-one, arith}
+use Rattle.std.specs.Ordering.{MatchOrdering, ordering_index}
 use Rattle.std.proofs.lemmas.Bool.{true≢false}
 use Rattle.rows.specs.Rows.{Row, Before}
 use Rattle.rows.specs.MaxPlus.{before, later, added}
@@ -16,18 +16,16 @@ use Rattle.network.specs.Steps.{beats, Raised}
 
 -- the test of the order
 
-less_from : (o : Ordering) (x y : Row) → MatchOrdering o (Before x y) (x ≡ y) (Before y x) → Before x y → o ≡ Less
-less_from Less x y r h = refl
-less_from Equal x y r h = absurd (NotBefore-same x y r h)
-less_from Greater x y r h = absurd (before_asym y x r h)
-
-pub less_is_before : (o : Ordering) (b : Bool) (x y : Row) → MatchOrdering o (Before x y) (x ≡ y) (Before y x) → (b ≡ true → o ≡ Less) → (o ≡ Less → b ≡ true) → b ≡ before x y
-less_is_before o b x y r from to = go b (before x y) from to (decided x y)
+pub less_is_before : (o : Ordering) (b : Bool) (x y : Row) → MatchOrdering o (Before x y) (x ≡ y) (Before y x) → b ≡ (ordering_index o == 0) → b ≡ before x y
+less_is_before o b x y r e = e ∙ go o (before x y) r (decided x y)
   where
-    go : (b d : Bool) → (b ≡ true → o ≡ Less) → (o ≡ Less → b ≡ true) → Decided x y d → b ≡ d
-    go b d from to (holds e h) = to (less_from o x y r h) ∙ sym e
-    go true d from to (fails e n) = absurd (n (subst (λ (p : Ordering). MatchOrdering p (Before x y) (x ≡ y) (Before y x)) (from refl) r))
-    go false d from to (fails e n) = sym e
+    go : (o : Ordering) (d : Bool) → MatchOrdering o (Before x y) (x ≡ y) (Before y x) → Decided x y d → (ordering_index o == 0) ≡ d
+    go Less d r (holds e h) = sym e
+    go Less d r (fails e n) = absurd (n r)
+    go Equal d r (holds e h) = absurd (NotBefore-same x y r h)
+    go Equal d r (fails e n) = sym e
+    go Greater d r (holds e h) = absurd (before_asym y x r h)
+    go Greater d r (fails e n) = sym e
 
 beats_below : (z : Row) (o : Option Row) → beats z o ≡ true → Below o (Some z)
 beats_below z None e = tt

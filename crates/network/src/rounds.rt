@@ -12,7 +12,7 @@ use std::cmp::Ordering;
 
 // Whether a sum is after the best so far.
 fn is_after<K: Mark>(sum: K, best: Option<K>) -> bool
-    ensures { result ≡ beats (row sum) (option_map row best) }
+    ensures { result ≡ beats (K.Mark.row sum) (option_map K.Mark.row best) }
 {
     match best {
         None => true,
@@ -27,11 +27,11 @@ fn raise<N: Network>(
     totals: &[Option<N::Kind>],
     to: usize,
 ) -> (Option<N::Kind>, Option<usize>)
-    requires ready { (sound net.now) × (count ≡ size net.now) }
-    requires lags { Net N.Kind.Mark.wide count (weight net.now) }
-    requires fits { SumsInside count (weight net.now) (times N.Kind.Mark.row totals.now) }
+    requires ready { (N.Network.sound net.now) × (count ≡ N.Network.size net.now) }
+    requires lags { Net N.Kind.Mark.wide count (N.Network.weight net.now) }
+    requires fits { SumsInside count (N.Network.weight net.now) (times N.Kind.Mark.row totals.now) }
     requires places { (to < count) × (count ≤ length totals.now) }
-    ensures { Raised count count (weight net.now) (times N.Kind.Mark.row totals.now) to (option_map N.Kind.Mark.row result.0) result.1 }
+    ensures { Raised count count (N.Network.weight net.now) (times N.Kind.Mark.row totals.now) to (option_map N.Kind.Mark.row result.0) result.1 }
 {
     let mut best = totals[to];
     let mut source = None;
@@ -61,11 +61,11 @@ pub fn go_round<N: Network>(
     sources: &mut [u8],
     base: usize,
 ) -> Option<usize>
-    requires ready { (sound net.now) × (count ≡ size net.now) }
-    requires lags { Net N.Kind.Mark.wide count (weight net.now) }
-    requires fits { SumsInside count (weight net.now) (times N.Kind.Mark.row totals.now) }
+    requires ready { (N.Network.sound net.now) × (count ≡ N.Network.size net.now) }
+    requires lags { Net N.Kind.Mark.wide count (N.Network.weight net.now) }
+    requires fits { SumsInside count (N.Network.weight net.now) (times N.Kind.Mark.row totals.now) }
     requires places { (count ≤ length totals.now) × ((count ≤ length next.old) × (base + count ≤ length sources.old)) }
-    ensures went { WentRound count count (weight net.now) (times N.Kind.Mark.row totals.now) (times N.Kind.Mark.row next.new) (kept_at sources.new base) result }
+    ensures went { WentRound count count (N.Network.weight net.now) (times N.Kind.Mark.row totals.now) (times N.Kind.Mark.row next.new) (kept_at sources.new base) result }
     ensures kept { (i : ℕ) → i < base → slice_index sources.new i ≡ slice_index sources.old i }
 {
     let mut changed = None;

@@ -1,4 +1,6 @@
 // The planner's calls, each under its own name, and what they answer in the max-plus algebra.
+#![tactic(auto)]
+
 pub use algebra::{
     backward_is_residual, closest_is_residual, earliest_is_star, finish_is_product, latest_is_star,
 };

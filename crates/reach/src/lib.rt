@@ -1,4 +1,6 @@
 // Who waits on an event: the events that a chain of lags from it reaches.
+#![tactic(auto)]
+
 ghost use Rattle.std.specs.Prelude.{◌≡◌, ℕ, ◌<◌, ◌≤◌, false, not, ◌&&◌, length, MatchOption, ◌==◌, slice_index_or};
 ghost use Rattle.tables.specs.Tables.{lags};
 ghost use Rattle.reach.specs.Calls.{WaitingEnds};
@@ -13,7 +15,7 @@ use tables::layout::lag_at;
 // Ticks the events that a lag from `from` leads to.
 fn follow<K: Mark>(count: usize, table: &[Option<K::Lag>], from: usize, reached: &mut [bool])
     requires { (count ≤ 63) × ((from < count) × (length reached.old ≡ 63)) }
-    ensures { Followed count (lags amount count table.now) from reached.old reached.new }
+    ensures { Followed count (lags K.Mark.amount count table.now) from reached.old reached.new }
 {
     for to in 0..count {
         if lag_at::<K>(count, table, to, from).is_some() {
@@ -38,7 +40,7 @@ fn unfollowed(count: usize, reached: &[bool], followed: &[bool]) -> Option<usize
 // The events that a chain from `event` reaches.
 fn reach<K: Mark>(count: usize, table: &[Option<K::Lag>], event: usize) -> [bool; MOST_EVENTS]
     requires { (count ≤ 63) × (event < count) }
-    ensures { Reached count (lags amount count table.now) event result }
+    ensures { Reached count (lags K.Mark.amount count table.now) event result }
 {
     let mut reached = [false; MOST_EVENTS];
     let mut followed = [false; MOST_EVENTS];
@@ -71,7 +73,7 @@ pub fn waiting<K: Mark>(
     table: &[Option<K::Lag>],
     event: usize,
 ) -> Result<(u64, u32), PlanFault>
-    ensures { WaitingEnds amount stages table.now event result }
+    ensures { WaitingEnds K.Mark.amount stages table.now event result }
 {
     let count = check_table(stages, table.len())?;
     check_event(stages, event)?;

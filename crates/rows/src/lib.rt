@@ -1,4 +1,6 @@
 // Rows of whole numbers: the definitions and laws that marks and plans rest on.
+#![tactic(auto)]
+
 ghost use Rattle.rows.specs.Laws.{OrderedGroup, SumsWithin};
 ghost use Rattle.rows.specs.Limits.{Relations};
 

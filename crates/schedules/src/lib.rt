@@ -1,4 +1,6 @@
 // Schedules of a plan: when there are any, and the least and the greatest time of each event.
+#![tactic(auto)]
+
 ghost use Rattle.schedules.specs.Theorems.{ScheduleOrLoop, TimesCombine, TimesAreExact, LatestAreExact, ReversalMirrors, SumsStayInside};
 
 // A plan has a schedule or a loop, and never both.

@@ -1,4 +1,6 @@
 // set: puts a lag into the plan unless that leaves no schedule.
+#![tactic(auto)]
+
 ghost use Rattle.std.specs.Prelude.{min, length};
 ghost use Rattle.setting.specs.Calls.{SetEnds};
 
@@ -19,7 +21,7 @@ pub fn set<K: Mark>(
     next: &mut [Option<K>],
     loop_row: &mut [usize],
 ) -> Result<(), PlanFault>
-    ensures { SetEnds wide amount stages table.old table.new to from parts.now (min (length totals.old) (min (length next.old) (length loop_row.old))) loop_row.old loop_row.new result }
+    ensures { SetEnds K.Mark.wide K.Mark.amount stages table.old table.new to from parts.now (min (length totals.old) (min (length next.old) (length loop_row.old))) loop_row.old loop_row.new result }
 {
     let shortest = totals.len().min(next.len().min(loop_row.len()));
     let count = check_rows(stages, table.len(), shortest)?;

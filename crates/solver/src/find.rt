@@ -21,10 +21,10 @@ fn last_changed<N: Network>(
     next: &mut [Option<N::Kind>],
     sources: &mut [u8],
 ) -> Option<usize>
-    requires ready { (sound net.now) × (count ≡ size net.now) }
-    requires lags { Net N.Kind.Mark.wide count (weight net.now) }
+    requires ready { (N.Network.sound net.now) × (count ≡ N.Network.size net.now) }
+    requires lags { Net N.Kind.Mark.wide count (N.Network.weight net.now) }
     requires places { (count ≤ length totals.old) × ((count ≤ length next.old) × (length sources.old ≡ 3969)) }
-    ensures { RoundsEnded N.Kind.Mark.wide count (weight net.now) sources.new result }
+    ensures { RoundsEnded N.Kind.Mark.wide count (N.Network.weight net.now) sources.new result }
 {
     fill_totals(count, totals, Some(N::Kind::zero()));
     let mut last = 0;
@@ -43,9 +43,9 @@ pub fn find_loop<N: Network>(
     next: &mut [Option<N::Kind>],
     loop_row: &mut [usize],
 ) -> Option<usize>
-    requires network { sound net.now }
-    requires places { (size net.now ≤ length totals.old) × ((size net.now ≤ length next.old) × (size net.now ≤ length loop_row.old)) }
-    ensures { LoopSought N.Kind.Mark.wide (size net.now) (weight net.now) loop_row.old loop_row.new result }
+    requires network { N.Network.sound net.now }
+    requires places { (N.Network.size net.now ≤ length totals.old) × ((N.Network.size net.now ≤ length next.old) × (N.Network.size net.now ≤ length loop_row.old)) }
+    ensures { LoopSought N.Kind.Mark.wide (N.Network.size net.now) (N.Network.weight net.now) loop_row.old loop_row.new result }
 {
     let count = net.events();
     let mut sources = [0; SOURCES];

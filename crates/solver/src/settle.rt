@@ -12,10 +12,10 @@ use rows::MOST_EVENTS;
 // Rounds from the opening alone, until one changes nothing: one fewer than there are events at the most. The totals are then the least
 // times; `next` is working memory.
 pub fn settle<N: Network>(net: &N, totals: &mut [Option<N::Kind>], next: &mut [Option<N::Kind>])
-    requires network { sound net.now }
-    requires places { (size net.now ≤ length totals.old) × (size net.now ≤ length next.old) }
-    requires schedules { Schedulable N.Kind.Mark.wide (size net.now) (weight net.now) }
-    ensures { LeastTimes N.Kind.Mark.wide (size net.now) (weight net.now) (times N.Kind.Mark.row totals.new) }
+    requires network { N.Network.sound net.now }
+    requires places { (N.Network.size net.now ≤ length totals.old) × (N.Network.size net.now ≤ length next.old) }
+    requires schedules { Schedulable N.Kind.Mark.wide (N.Network.size net.now) (N.Network.weight net.now) }
+    ensures { LeastTimes N.Kind.Mark.wide (N.Network.size net.now) (N.Network.weight net.now) (times N.Kind.Mark.row totals.new) }
 {
     let count = net.events();
     let mut sources = [0; MOST_EVENTS];

@@ -1,4 +1,6 @@
 // Stamps: two parts, the minute and the turn within it. Neither is converted into the other.
+#![tactic(auto)]
+
 ghost use Rattle.std.specs.Prelude.{[], ◌∷◌};
 ghost use Rattle.rows.specs.Limits.{lag_limit, total_limit};
 ghost use Rattle.marks.specs.Meaning.{clamped};

@@ -6,7 +6,7 @@ ghost use Rattle.tables.specs.Tables.{events, lags, times};
 ghost use Rattle.starts.specs.Calls.{FinishEnds};
 ghost use Rattle.starts.specs.Starts.{Finished, Finishes};
 
-use crate::rows::{arrival, put_stage};
+use crate::arrivals::{arrival, put_stage};
 use checks::{check_rows, check_totals};
 use marks::kind::Mark;
 use tables::fault::PlanFault;
@@ -19,8 +19,8 @@ fn latest_arrival<K: Mark>(
     starts: &[Option<K>],
     to: usize,
 ) -> Option<K>
-    requires { (stages ≤ 31) × ((to < events stages) × (AllGiven (times row starts.now) 1 2 stages)) }
-    ensures { Finished stages (lags amount (events stages) table.now) (times row starts.now) to (option_map row result) }
+    requires { (stages ≤ 31) × ((to < events stages) × (AllGiven (times K.Mark.row starts.now) 1 2 stages)) }
+    ensures { Finished stages (lags K.Mark.amount (events stages) table.now) (times K.Mark.row starts.now) to (option_map K.Mark.row result) }
 {
     let count = 2 * stages + 1;
     let mut latest = None;
@@ -36,8 +36,8 @@ fn write_finishes<K: Mark>(
     starts: &[Option<K>],
     finishes: &mut [Option<K>],
 )
-    requires { (stages ≤ 31) × ((AllGiven (times row starts.now) 1 2 stages) × (events stages ≤ length finishes.old)) }
-    ensures { Finishes stages (lags amount (events stages) table.now) (times row starts.now) (times row finishes.new) × (drop (events stages) finishes.new ≡ drop (events stages) finishes.old) }
+    requires { (stages ≤ 31) × ((AllGiven (times K.Mark.row starts.now) 1 2 stages) × (events stages ≤ length finishes.old)) }
+    ensures { Finishes stages (lags K.Mark.amount (events stages) table.now) (times K.Mark.row starts.now) (times K.Mark.row finishes.new) × (drop (events stages) finishes.new ≡ drop (events stages) finishes.old) }
 {
     finishes[0] = None;
     for stage in 0..stages {
@@ -53,7 +53,7 @@ pub fn finish<K: Mark>(
     starts: &[Option<K>],
     finishes: &mut [Option<K>],
 ) -> Result<(), PlanFault>
-    ensures { FinishEnds amount row stages table.now starts.now finishes.old finishes.new result }
+    ensures { FinishEnds K.Mark.amount K.Mark.row stages table.now starts.now finishes.old finishes.new result }
 {
     let _ = check_rows(stages, table.len(), starts.len().min(finishes.len()))?;
     check_totals(starts, 1, 2, stages)?;

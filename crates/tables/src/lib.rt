@@ -1,3 +1,5 @@
 // Tables of lags: stages, events and places, and the faults of a plan.
+#![tactic(auto)]
+
 pub mod fault;
 pub mod layout;

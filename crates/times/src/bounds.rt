@@ -21,7 +21,7 @@ pub fn earliest<K: Mark>(
     next: &mut [Option<K>],
     loop_row: &mut [usize],
 ) -> Result<(), PlanFault>
-    ensures { EarliestEnds wide amount row stages table.now answer.old answer.new (min (min (length answer.old) (length totals.old)) (min (length next.old) (length loop_row.old))) loop_row.old loop_row.new result }
+    ensures { EarliestEnds K.Mark.wide K.Mark.amount K.Mark.row stages table.now answer.old answer.new (min (min (length answer.old) (length totals.old)) (min (length next.old) (length loop_row.old))) loop_row.old loop_row.new result }
 {
     let shortest = answer
         .len()
@@ -48,7 +48,7 @@ pub fn latest<K: Mark>(
     turned_next: &mut [Option<Turned<K>>],
     loop_row: &mut [usize],
 ) -> Result<(), PlanFault>
-    ensures { LatestEnds wide amount row stages table.now answer.old answer.new (min (min (min (length answer.old) (length totals.old)) (min (length next.old) (length loop_row.old))) (min (length turned.old) (length turned_next.old))) loop_row.old loop_row.new result }
+    ensures { LatestEnds K.Mark.wide K.Mark.amount K.Mark.row stages table.now answer.old answer.new (min (min (min (length answer.old) (length totals.old)) (min (length next.old) (length loop_row.old))) (min (length turned.old) (length turned_next.old))) loop_row.old loop_row.new result }
 {
     let plain = answer
         .len()
@@ -75,7 +75,7 @@ pub fn spread<K: Mark>(
     turned_next: &mut [Option<Turned<K>>],
     loop_row: &mut [usize],
 ) -> Result<(Option<K>, Option<K>), PlanFault>
-    ensures { SpreadEnds wide amount row stages table.now event (min (min (length totals.old) (min (length next.old) (length loop_row.old))) (min (length turned.old) (length turned_next.old))) loop_row.old loop_row.new result }
+    ensures { SpreadEnds K.Mark.wide K.Mark.amount K.Mark.row stages table.now event (min (min (length totals.old) (min (length next.old) (length loop_row.old))) (min (length turned.old) (length turned_next.old))) loop_row.old loop_row.new result }
 {
     let plain = totals.len().min(next.len().min(loop_row.len()));
     let shortest = plain.min(turned.len().min(turned_next.len()));

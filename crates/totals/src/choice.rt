@@ -8,7 +8,7 @@ use marks::kind::Mark;
 use std::cmp::Ordering;
 
 pub fn later_of<K: Mark>(one: Option<K>, other: Option<K>) -> Option<K>
-    ensures { option_map row result ≡ later (option_map row one) (option_map row other) }
+    ensures { option_map K.Mark.row result ≡ later (option_map K.Mark.row one) (option_map K.Mark.row other) }
 {
     let Some(x) = one else {
         return other;
@@ -23,7 +23,7 @@ pub fn later_of<K: Mark>(one: Option<K>, other: Option<K>) -> Option<K>
 }
 
 pub fn earlier_of<K: Mark>(one: Option<K>, other: Option<K>) -> Option<K>
-    ensures { option_map row result ≡ earlier (option_map row one) (option_map row other) }
+    ensures { option_map K.Mark.row result ≡ earlier (option_map K.Mark.row one) (option_map K.Mark.row other) }
 {
     let Some(x) = one else {
         return other;
@@ -39,16 +39,16 @@ pub fn earlier_of<K: Mark>(one: Option<K>, other: Option<K>) -> Option<K>
 
 // Total plus lag, where both are there and the sum fits a total; else nothing.
 pub fn sum_of<K: Mark>(total: Option<K>, lag: Option<K::Lag>) -> Option<K>
-    ensures fits { FitsTotal (added (option_map row total) (option_map amount lag)) → option_map row result ≡ added (option_map row total) (option_map amount lag) }
-    ensures beyond { (FitsTotal (added (option_map row total) (option_map amount lag)) → ⊥) → result ≡ None }
+    ensures fits { FitsTotal (added (option_map K.Mark.row total) (option_map K.Mark.amount lag)) → option_map K.Mark.row result ≡ added (option_map K.Mark.row total) (option_map K.Mark.amount lag) }
+    ensures beyond { (FitsTotal (added (option_map K.Mark.row total) (option_map K.Mark.amount lag)) → ⊥) → result ≡ None }
 {
     total?.add(lag?)
 }
 
 // Total minus lag, where both are there and the difference fits a total; else nothing.
 pub fn difference_of<K: Mark>(total: Option<K>, lag: Option<K::Lag>) -> Option<K>
-    ensures fits { FitsTotal (taken (option_map row total) (option_map amount lag)) → option_map row result ≡ taken (option_map row total) (option_map amount lag) }
-    ensures beyond { (FitsTotal (taken (option_map row total) (option_map amount lag)) → ⊥) → result ≡ None }
+    ensures fits { FitsTotal (taken (option_map K.Mark.row total) (option_map K.Mark.amount lag)) → option_map K.Mark.row result ≡ taken (option_map K.Mark.row total) (option_map K.Mark.amount lag) }
+    ensures beyond { (FitsTotal (taken (option_map K.Mark.row total) (option_map K.Mark.amount lag)) → ⊥) → result ≡ None }
 {
     total?.take(lag?)
 }

@@ -8,7 +8,7 @@ use marks::numbers::within_given;
 
 // Whether no part is beyond the limit of given totals.
 pub fn is_given<K: Mark>(total: K) -> bool
-    ensures { result ≡ inside given_limit (row total) }
+    ensures { result ≡ inside given_limit (K.Mark.row total) }
 {
     for index in 0..K::part_count() {
         let Some(part) = total.part(index) else {

@@ -1,4 +1,6 @@
 // A walk through worked plans: what each call is asked, and what it answers.
+#![tactic(auto)]
+
 mod minutes_plan;
 mod nearest_plan;
 mod show;

@@ -1,4 +1,6 @@
 // Turned marks, over any kind: a turned total means the inner total with every sign changed, lags mean what they meant.
+#![tactic(auto)]
+
 ghost use Rattle.std.specs.Prelude.{◌≡◌, ◌≤◌, length, take};
 ghost use Rattle.std.proofs.Common.{◌∙◌, rules};
 ghost use Rattle.rows.specs.Rows.{negated};

@@ -1,4 +1,6 @@
 // Turning twice restores the meaning of a total, for every kind of mark.
+#![tactic(auto)]
+
 ghost use Rattle.std.specs.Prelude.{◌≡◌};
 ghost use Rattle.twice.specs.Twice.{TurningTwice, turned_kind, Added, Taken, Ordered};
 

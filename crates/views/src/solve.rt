@@ -20,7 +20,7 @@ pub fn contradiction<K: Mark>(
 ) -> Option<usize>
     requires laid { (1 ≤ count) × ((count ≤ 63) × (length table.now ≡ count * count)) }
     requires places { (count ≤ length totals.old) × ((count ≤ length next.old) × (count ≤ length loop_row.old)) }
-    ensures { LoopSought wide count (lags amount count table.now) loop_row.old loop_row.new result }
+    ensures { LoopSought K.Mark.wide count (lags K.Mark.amount count table.now) loop_row.old loop_row.new result }
 {
     let net = Forward::<K> { count, table };
     find_loop(&net, totals, next, loop_row)
@@ -35,8 +35,8 @@ pub fn least_times<K: Mark>(
 )
     requires laid { (1 ≤ count) × ((count ≤ 63) × (length table.now ≡ count * count)) }
     requires places { (count ≤ length totals.old) × (count ≤ length next.old) }
-    requires schedules { Schedulable wide count (lags amount count table.now) }
-    ensures { LeastTimes wide count (lags amount count table.now) (times row totals.new) }
+    requires schedules { Schedulable K.Mark.wide count (lags K.Mark.amount count table.now) }
+    ensures { LeastTimes K.Mark.wide count (lags K.Mark.amount count table.now) (times K.Mark.row totals.new) }
 {
     let net = Forward::<K> { count, table };
     settle(&net, totals, next)
@@ -51,8 +51,8 @@ pub fn greatest_times<K: Mark>(
 )
     requires laid { (1 ≤ count) × ((count ≤ 63) × (length table.now ≡ count * count)) }
     requires places { (count ≤ length turned.old) × (count ≤ length next.old) }
-    requires schedules { Schedulable wide count (lags amount count table.now) }
-    ensures { GreatestTimes wide count (lags amount count table.now) (times (λ t. row t.inner) turned.new) }
+    requires schedules { Schedulable K.Mark.wide count (lags K.Mark.amount count table.now) }
+    ensures { GreatestTimes K.Mark.wide count (lags K.Mark.amount count table.now) (times (λ t. K.Mark.row t.inner) turned.new) }
 {
     let net = Reversed::<K> { count, table };
     settle(&net, turned, next)

@@ -12,11 +12,11 @@ loop-k-preserved g c =
     let K = g.K.Mark in
     let at : 2 * c.loop-k.k + 1 ≡ start (suc c.loop-k.k) = omega arith in
     let f : ℕ → Option Row = λ i. added (times K.row c.args.starts.now i) (lags K.amount (events c.args.stages) c.args.table.now c.args.to i) in
-    let total = ap (option_map K.row) c.time-at.ensures in
-    let lag = ap (option_map K.amount) (c.lag-at.ensures (omega (arith, c.requires.0)) c.requires.1.0 (omega arith)) in
+    let total = ap (option_map K.row) c.time_at.ensures in
+    let lag = ap (option_map K.amount) (c.lag_at.ensures (omega (arith, c.requires.0)) c.requires.1.0 (omega arith)) in
     let inside = c.requires.1.1 (suc c.loop-k.k) in
-    let fits = end_fits K.amount g.met.K.Mark.amount_limit (option_map K.row c.time-at.result) c.lag-at.result (λ r e. inside r (omega arith) (omega arith) (sym (total ∙ ap (times K.row c.args.starts.now) at) ∙ e)) in
-    latest_step c.loop-k.k (λ j. f (start j)) (option_map K.row c.loop-k.latest) (option_map K.row c.sum-of-end.result) (option_map K.row c.later-of-latest.result) c.loop-k.invariant (c.sum-of-end.ensures.fits fits ∙ ap₂ added total lag ∙ ap f at) c.later-of-latest.ensures
+    let fits = end_fits K.amount g.met.K.Mark.amount_limit (option_map K.row c.time_at.result) c.lag_at.result (λ r e. inside r (omega arith) (omega arith) (sym (total ∙ ap (times K.row c.args.starts.now) at) ∙ e)) in
+    latest_step c.loop-k.k (λ j. f (start j)) (option_map K.row c.loop-k.latest) (option_map K.row c.sum_of-end.result) (option_map K.row c.later_of-latest.result) c.loop-k.invariant (c.sum_of-end.ensures.fits fits ∙ ap₂ added total lag ∙ ap f at) c.later_of-latest.ensures
 
 pub returns : goal.returns
 returns g c =

@@ -7,13 +7,13 @@ use Rattle.closest.specs.Steps.{minute}
 use Rattle.closest.proofs.Moving.{distance_fits, sum_fits, moved_made}
 use Rattle.closest.proofs.write_moved.Goals as goal
 
-pub overflow-cast-minute : goal.overflow-cast-minute
-overflow-cast-minute g c =
-    distance_fits g.K.Mark.wide g.K.Mark.row g.met.K.Mark.row_limit c.args.latest.now c.loop-k.k c.time-at.result c.minute-of.result c.args.distance c.time-at.ensures c.minute-of.ensures (c.requires.1.1.0 (suc c.loop-k.k) (omega arith) c.loop-k-test.true)
+pub overflow_cast-minute : goal.overflow_cast-minute
+overflow_cast-minute g c =
+    distance_fits g.K.Mark.wide g.K.Mark.row g.met.K.Mark.row_limit c.args.latest.now c.loop-k.k c.time_at.result c.minute_of.result c.args.distance c.time_at.ensures c.minute_of.ensures (c.requires.1.1.0 (suc c.loop-k.k) (omega arith) c.loop-k-test.true)
 
-pub overflow-add-minute : goal.overflow-add-minute
-overflow-add-minute g c =
-    sum_fits g.K.Mark.wide g.K.Mark.row g.met.K.Mark.row_limit c.args.latest.now c.loop-k.k c.time-at.result c.minute-of.result c.args.distance c.time-at.ensures c.minute-of.ensures (c.requires.1.1.0 (suc c.loop-k.k) (omega arith) c.loop-k-test.true)
+pub overflow_add-minute : goal.overflow_add-minute
+overflow_add-minute g c =
+    sum_fits g.K.Mark.wide g.K.Mark.row g.met.K.Mark.row_limit c.args.latest.now c.loop-k.k c.time_at.result c.minute_of.result c.args.distance c.time_at.ensures c.minute_of.ensures (c.requires.1.1.0 (suc c.loop-k.k) (omega arith) c.loop-k-test.true)
 
 pub loop-k-preserved : goal.loop-k-preserved
 loop-k-preserved g c =
@@ -21,8 +21,8 @@ loop-k-preserved g c =
     let F : ℕ → Option Row → Type 0 = λ j o. o ≡ None in
     let long : length c.loop-k.starts ≡ length c.args.starts.now = c.loop-k.auto.starts ∙ length-set c.args.starts.now 0 None in
     let room : 2 * c.loop-k.k + 2 < length c.loop-k.starts = omega (arith, c.requires.1.1.1) in
-    filled_step g.K.Mark.row S F c.loop-k.k (set c.args.starts.now 0 None) c.loop-k.starts _ c.make-total.result None room refl c.loop-k.invariant
-    (moved_made g.K.Mark.wide g.K.Mark.row g.met.K.Mark.row_limit c.args.latest.now c.loop-k.k c.time-at.result c.minute-of.result c.args.distance c.time-at.ensures c.minute-of.ensures (c.requires.1.1.0 (suc c.loop-k.k) (omega arith) c.loop-k-test.true) c.make-total.result c.requires.1.0 c.make-total.ensures) refl
+    filled_step g.K.Mark.row S F c.loop-k.k (set c.args.starts.now 0 None) c.loop-k.starts _ c.make_total.result None room refl c.loop-k.invariant
+    (moved_made g.K.Mark.wide g.K.Mark.row g.met.K.Mark.row_limit c.args.latest.now c.loop-k.k c.time_at.result c.minute_of.result c.args.distance c.time_at.ensures c.minute_of.ensures (c.requires.1.1.0 (suc c.loop-k.k) (omega arith) c.loop-k-test.true) c.make_total.result c.requires.1.0 c.make_total.ensures) refl
 
 pub returns : goal.returns
 returns g c =

@@ -22,8 +22,8 @@ loop-k-preserved g c =
     let f : ℕ → Option Row = λ i. taken (times K.row c.args.due.now i) (lags K.amount (events c.args.stages) c.args.table.now i c.args.from) in
     earliest_step K.wide (λ j. f (finish j))
     (λ j q e. taken_wide K.wide K.row K.amount g.met.K.Mark.row_wide g.met.K.Mark.amount_wide (get_or c.args.due.now (finish j) None) (get_or c.args.table.now (place (events c.args.stages) (finish j) c.args.from) None) q e)
-    c.loop-k.k (option_map K.row c.loop-k.earliest) (option_map K.row c.departure.result) (option_map K.row c.earlier-of-earliest.result)
-    (c.departure.ensures ∙ ap f at) c.loop-k.invariant c.earlier-of-earliest.ensures
+    c.loop-k.k (option_map K.row c.loop-k.earliest) (option_map K.row c.departure.result) (option_map K.row c.earlier_of-earliest.result)
+    (c.departure.ensures ∙ ap f at) c.loop-k.invariant c.earlier_of-earliest.ensures
 
 pub loop-k-init : goal.loop-k-init
 loop-k-init g c = among_none _

@@ -23,8 +23,8 @@ loop-stage-preserved g c =
     let at : 2 * c.loop-stage.stage + 1 ≡ start (suc c.loop-stage.stage) = omega arith in
     let long : length c.loop-stage.starts ≡ length c.args.starts.now = c.loop-stage.auto.starts ∙ length-set c.args.starts.now 0 None in
     let room : 2 * c.loop-stage.stage + 2 < length c.loop-stage.starts = omega (arith, c.requires.1.1) in
-    filled_step K.row (λ k o. from (start k) o) F c.loop-stage.stage (set c.args.starts.now 0 None) c.loop-stage.starts c.put-stage.new.totals c.earliest-departure-start.result None room c.put-stage.ensures c.loop-stage.invariant
-    (subst (λ (i : ℕ). from i (option_map K.row c.earliest-departure-start.result)) at c.earliest-departure-start.ensures) refl
+    filled_step K.row (λ k o. from (start k) o) F c.loop-stage.stage (set c.args.starts.now 0 None) c.loop-stage.starts c.put_stage.new.totals c.earliest_departure-start.result None room c.put_stage.ensures c.loop-stage.invariant
+    (subst (λ (i : ℕ). from i (option_map K.row c.earliest_departure-start.result)) at c.earliest_departure-start.ensures) refl
 
 pub returns : goal.returns
 returns g c =

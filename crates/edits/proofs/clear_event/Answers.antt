@@ -7,7 +7,7 @@ loop-other-preserved g c =
     let few = c.requires.0 in
     let event = c.requires.1.0 in
     let other = c.loop-other-test.true in
-    Cleared-more c.args.count c.args.event c.loop-other.other c.args.table.now c.loop-other.table c.put-lag.new.table c.put-lag-in-loop-other.new.table event other (c.loop-other.auto.table ∙ c.requires.1.1) (c.put-lag.ensures few event other) (c.put-lag-in-loop-other.ensures few other event) c.loop-other.invariant
+    Cleared-more c.args.count c.args.event c.loop-other.other c.args.table.now c.loop-other.table c.put_lag.new.table c.put_lag-in-loop-other.new.table event other (c.loop-other.auto.table ∙ c.requires.1.1) (c.put_lag.ensures few event other) (c.put_lag-in-loop-other.ensures few other event) c.loop-other.invariant
 
 pub returns : goal.returns
 returns g c =

@@ -9,7 +9,7 @@ loop-at-preserved g c =
 
 pub returns : goal.returns
 returns g c =
-    let laid = c.in-ok-check-table.ensures.1 in
+    let laid = c.in_ok-check_table.ensures.1 in
     let end : c.loop-at.at ≡ length c.args.table.now = omega arith in
     let full : length c.args.table.now ≡ places c.args.stages = laid.full ∙ ap (λ (m : ℕ). m * m) laid.count in
-    (c.in-ok-check-table.ensures.0, sym (take_all c.loop-at.at c.loop-at.table (omega arith)) ∙ c.loop-at.invariant ∙ ap (λ (k : ℕ). replicate k None) (end ∙ full))
+    (c.in_ok-check_table.ensures.0, sym (take_all c.loop-at.at c.loop-at.table (omega arith)) ∙ c.loop-at.invariant ∙ ap (λ (k : ℕ). replicate k None) (end ∙ full))

@@ -23,7 +23,7 @@ table-preserved g c =
 
 pub returns-after-table : goal.returns-after-table
 returns-after-table g c =
-    none_broken c.args.count (lags g.K.Mark.amount c.args.count c.args.table.now) (times g.K.Mark.row c.args.totals.now) c.table.broken· c.table.invariant.0 (λ v u h k. c.table.invariant.1 v u (omega arith) k)
+    none_broken c.args.count (lags g.K.Mark.amount c.args.count c.args.table.now) (times g.K.Mark.row c.args.totals.now) c.table.broken-1 c.table.invariant.0 (λ v u h k. c.table.invariant.1 v u (omega arith) k)
 
 pub returns-then-breaks : goal.returns-then-breaks
 returns-then-breaks g c =

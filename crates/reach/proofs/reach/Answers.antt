@@ -24,4 +24,4 @@ loop-u-preserved g c =
 
 pub returns : goal.returns
 returns g c =
-    following_all c.args.count (lags g.K.Mark.amount c.args.count c.args.table.now) c.args.event c.requires.1 c.loop-u.reached c.loop-u.followed c.loop-u.invariant.1 c.in-default.ensures
+    following_all c.args.count (lags g.K.Mark.amount c.args.count c.args.table.now) c.args.event c.requires.1 c.loop-u.reached c.loop-u.followed c.loop-u.invariant.1 c.in_default.ensures

@@ -7,8 +7,8 @@ use Rattle.reach.proofs.waiting.Goals as goal
 
 pub returns : goal.returns
 returns g c =
-    let laid = c.in-ok-count.ensures.1 in (
+    let laid = c.in_ok-count.ensures.1 in (
       search rules,
-      subst (λ (m : ℕ). Waiting m (lags g.K.Mark.amount m c.args.table.now) c.args.event (c.mask-of-mask.result, ones c.mask-of-mask.result)) laid.count
-          (answered c.in-ok-count.count (lags g.K.Mark.amount c.in-ok-count.count c.args.table.now) c.args.event c.reach-reached.result c.reach-reached.ensures c.mask-of-mask.result c.mask-of-mask.ensures),
+      subst (λ (m : ℕ). Waiting m (lags g.K.Mark.amount m c.args.table.now) c.args.event (c.mask_of-mask.result, ones c.mask_of-mask.result)) laid.count
+          (answered c.in_ok-count.count (lags g.K.Mark.amount c.in_ok-count.count c.args.table.now) c.args.event c.reach-reached.result c.reach-reached.ensures c.mask_of-mask.result c.mask_of-mask.ensures),
     )

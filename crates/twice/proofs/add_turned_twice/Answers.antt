@@ -5,5 +5,5 @@ use Rattle.twice.proofs.add_turned_twice.Goals as goal
 
 pub returns : goal.returns
 returns g c =
-    let e = ap (λ (x : Row). plus x (g.M.Mark.amount c.args.lag)) c.turned-twice.ensures.meaning in
-    total_twice g.M.Mark _ _ (Some c.in-ok-sum.sum) e c.in-ok-sum.ensures
+    let e = ap (λ (x : Row). plus x (g.M.Mark.amount c.args.lag)) c.turned_twice.ensures.meaning in
+    total_twice g.M.Mark _ _ (Some c.in_ok-sum.sum) e c.in_ok-sum.ensures

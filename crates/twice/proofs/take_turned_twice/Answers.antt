@@ -5,5 +5,5 @@ use Rattle.twice.proofs.take_turned_twice.Goals as goal
 
 pub returns : goal.returns
 returns g c =
-    let e = ap (λ (x : Row). minus x (g.M.Mark.amount c.args.lag)) c.turned-twice.ensures.meaning in
-    total_twice g.M.Mark _ _ (Some c.in-ok-rest.rest) e c.in-ok-rest.ensures
+    let e = ap (λ (x : Row). minus x (g.M.Mark.amount c.args.lag)) c.turned_twice.ensures.meaning in
+    total_twice g.M.Mark _ _ (Some c.in_ok-rest.rest) e c.in_ok-rest.ensures

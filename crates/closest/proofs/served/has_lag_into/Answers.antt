@@ -6,7 +6,7 @@ use Rattle.closest.proofs.served.has_lag_into.Goals as goal
 
 pub loop-k-preserved : goal.loop-k-preserved
 loop-k-preserved g c =
-    into_step g.K.Mark.amount (events c.args.stages) c.args.table.now c.loop-k.k c.loop-k.found c.is-some-found.result c.lag-at.result c.is-some-found.ensures c.args.to (c.lag-at.ensures (omega (arith, c.requires.0)) c.requires.1 (omega arith)) c.loop-k.invariant
+    into_step g.K.Mark.amount (events c.args.stages) c.args.table.now c.loop-k.k c.loop-k.found c.is_some-found.result c.lag_at.result c.is_some-found.ensures c.args.to (c.lag_at.ensures (omega (arith, c.requires.0)) c.requires.1 (omega arith)) c.loop-k.invariant
 
 pub returns : goal.returns
 returns g c =

@@ -5,12 +5,12 @@ use Rattle.rows.specs.Limits.{lag_limit, total_limit}
 use Rattle.marks.specs.Meaning.{NumberOf, clamped}
 use Rattle.marks.proofs.numbers.take_parts.Goals as goal
 
-pub overflow-sub-total-part : goal.overflow-sub-total-part
-overflow-sub-total-part c = omega (arith, ints, clamps, relations.machine, relations.chain_fits)
+pub overflow_sub-total_part : goal.overflow_sub-total_part
+overflow_sub-total_part c = omega (arith, ints, clamps, relations.machine, relations.chain_fits)
 
 pub returns : goal.returns
 returns c =
-    let total : c.total-part.result ≡ clamped total_limit c.args.total = grind (arith, to_z-of_z) in
-    let lag : c.lag-part.result ≡ clamped lag_limit c.args.lag = grind (arith, to_z-of_z) in
-    let fits : SFits w64 (to_z w64 (of_z w64 c.total-part.result) -ℤ to_z w64 (of_z w64 c.lag-part.result)) = omega (arith, ints, clamps, relations.machine, relations.chain_fits) in
-    subst (λ (z : ℤ). NumberOf total_limit z c.within-total.result) (to_z-of_z w64 _ fits ∙ omega (arith, ints)) c.within-total.ensures
+    let total : c.total_part.result ≡ clamped total_limit c.args.total = grind (arith, to_z-of_z) in
+    let lag : c.lag_part.result ≡ clamped lag_limit c.args.lag = grind (arith, to_z-of_z) in
+    let fits : SFits w64 (to_z w64 (of_z w64 c.total_part.result) -ℤ to_z w64 (of_z w64 c.lag_part.result)) = omega (arith, ints, clamps, relations.machine, relations.chain_fits) in
+    subst (λ (z : ℤ). NumberOf total_limit z c.within_total.result) (to_z-of_z w64 _ fits ∙ omega (arith, ints)) c.within_total.ensures

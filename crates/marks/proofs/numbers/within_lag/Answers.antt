@@ -2,16 +2,16 @@ use Rattle.std.proofs.Common.{arith}
 use Rattle.std.proofs.lemmas.Int.{ints}
 use Rattle.rows.specs.Limits.{lag_limit}
 use Rattle.marks.proofs.numbers.within_lag.Goals as goal
-use Rattle.marks.proofs.numbers.within_lag.Goals.{else-number-via-then-number+else-number-le-LAG-LIMIT, else-number-via-else-number}
+use Rattle.marks.proofs.numbers.within_lag.Goals.{else-number-via-then-number+else-number-le-LAG_LIMIT, else-number-via-else-number}
 
-pub returns-then-number-le-LAG-LIMIT : goal.returns-then-number-le-LAG-LIMIT
+pub returns-then-number-le-LAG_LIMIT : goal.returns-then-number-le-LAG_LIMIT
 unfolding lag_limit
-returns-then-number-le-LAG-LIMIT c = omega (arith, ints)
+returns-then-number-le-LAG_LIMIT c = omega (arith, ints)
 
 pub returns-else-number : goal.returns-else-number
 unfolding lag_limit
 returns-else-number c h =
     elim c.else-number.branch [
-      | else-number-via-then-number+else-number-le-LAG-LIMIT w ↦ omega (arith, ints)
+      | else-number-via-then-number+else-number-le-LAG_LIMIT w ↦ omega (arith, ints)
       | else-number-via-else-number w ↦ omega (arith, ints)
     ]

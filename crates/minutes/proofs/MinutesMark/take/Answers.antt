@@ -6,15 +6,15 @@ use Rattle.minutes.proofs.MinutesMark.take.Goals as goal
 
 pub returns : goal.returns
 returns c =
-    let m : SFits w64 c.in-ok-minute.minute = search rules in
+    let m : SFits w64 c.in_ok-minute.minute = search rules in
     let s : SFits w64 c.args.self.minute = search rules in
     let l : SFits w64 c.args.lag.minute = search rules in
-    let h = simp to_z-of_z at c.in-ok-minute.ensures in
+    let h = simp to_z-of_z at c.in_ok-minute.ensures in
     simp to_z-of_z (one_sum total_limit _ _ h)
 
-pub returns-in-err-minute : goal.returns-in-err-minute
-returns-in-err-minute c =
+pub returns-in_err-minute : goal.returns-in_err-minute
+returns-in_err-minute c =
     let s : SFits w64 c.args.self.minute = search rules in
     let l : SFits w64 c.args.lag.minute = search rules in
-    let h = simp to_z-of_z at c.in-err-minute.ensures in
-    rw c.from-residual.ensures (one_beyond total_limit _ h)
+    let h = simp to_z-of_z at c.in_err-minute.ensures in
+    rw c.from_residual.ensures (one_beyond total_limit _ h)

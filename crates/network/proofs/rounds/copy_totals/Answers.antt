@@ -15,5 +15,5 @@ returns g c =
     let end : c.loop-event.event ≡ c.args.count = omega arith in
     written_all (λ e. get_or c.args.from.now e None) c.args.to.now c.loop-event.event c.args.count c.loop-event.to end c.loop-event.invariant
 
-pub offset-bounds-to-event : goal.offset-bounds-to-event
-offset-bounds-to-event g c = let h : c.loop-event.event < length c.args.to.now = omega (arith, c.requires.1) in search rules
+pub offset_bounds-to-event : goal.offset_bounds-to-event
+offset_bounds-to-event g c = let h : c.loop-event.event < length c.args.to.now = omega (arith, c.requires.1) in search rules

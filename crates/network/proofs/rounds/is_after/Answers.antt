@@ -7,4 +7,4 @@ use Rattle.network.proofs.rounds.is_after.Goals as goal
 pub returns-in-Some : goal.returns-in-Some
 returns-in-Some g c =
     let row = g.K.Mark.row in
-    less_is_before c.order.result c.eq.result (row c.in-Some.total) (row c.args.sum) c.order.ensures c.eq.ensures.0 c.eq.ensures.1 ∙ sym (ap (λ o. beats (row c.args.sum) (option_map row o)) c.in-Some.is)
+    less_is_before c.order.result c.eq.result (row c.in-Some.total) (row c.args.sum) c.order.ensures c.eq.ensures ∙ sym (ap (λ o. beats (row c.args.sum) (option_map row o)) c.in-Some.is)

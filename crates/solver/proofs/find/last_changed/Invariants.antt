@@ -5,4 +5,4 @@ use Rattle.solver.proofs.find.last_changed.Given as goal
 
 abbrev pub invariant-loop-done : goal.invariant-loop-done
 invariant-loop-done g l =
-    WentRounds l.count (g.N.Network.weight l.net) (everywhere g.Kind.Mark.wide) (times g.Kind.Mark.row l.totals) l.done l.sources l.last
+    WentRounds l.count (g.N.Network.weight l.net) (everywhere g.N.Kind.Mark.wide) (times g.N.Kind.Mark.row l.totals) l.done l.sources l.last

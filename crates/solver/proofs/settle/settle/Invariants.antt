@@ -6,4 +6,4 @@ use Rattle.solver.proofs.settle.settle.Given as goal
 
 abbrev pub invariant-loop-done : goal.invariant-loop-done
 invariant-loop-done g l =
-    Alike l.count (times g.Kind.Mark.row l.totals) (rounds l.count (g.N.Network.weight l.net) (opening g.Kind.Mark.wide) l.-done) × (length l.sources ≡ 63)
+    Alike l.count (times g.N.Kind.Mark.row l.totals) (rounds l.count (g.N.Network.weight l.net) (opening g.N.Kind.Mark.wide) l._done) × (length l.sources ≡ 63)

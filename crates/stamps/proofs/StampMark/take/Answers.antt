@@ -6,26 +6,26 @@ use Rattle.stamps.proofs.StampMark.take.Goals as goal
 
 pub returns : goal.returns
 returns c =
-    let m : SFits w64 c.in-ok-minute.minute = search rules in
-    let t : SFits w64 c.in-ok-turn.turn = search rules in
+    let m : SFits w64 c.in_ok-minute.minute = search rules in
+    let t : SFits w64 c.in_ok-turn.turn = search rules in
     let sm : SFits w64 c.args.self.minute = search rules in
     let st : SFits w64 c.args.self.turn = search rules in
     let lm : SFits w64 c.args.lag.minute = search rules in
     let lt : SFits w64 c.args.lag.turn = search rules in
-    let h = simp to_z-of_z at c.in-ok-minute.ensures in
-    let k = simp to_z-of_z at c.in-ok-turn.ensures in
+    let h = simp to_z-of_z at c.in_ok-minute.ensures in
+    let k = simp to_z-of_z at c.in_ok-turn.ensures in
     simp to_z-of_z (two_sums total_limit _ _ _ _ h k)
 
-pub returns-in-err-minute : goal.returns-in-err-minute
-returns-in-err-minute c =
+pub returns-in_err-minute : goal.returns-in_err-minute
+returns-in_err-minute c =
     let sm : SFits w64 c.args.self.minute = search rules in
     let lm : SFits w64 c.args.lag.minute = search rules in
-    let h = simp to_z-of_z at c.in-err-minute.ensures in
-    rw c.from-residual.ensures (two_beyond total_limit _ _ (inl h))
+    let h = simp to_z-of_z at c.in_err-minute.ensures in
+    rw c.from_residual.ensures (two_beyond total_limit _ _ (inl h))
 
-pub returns-in-err-turn : goal.returns-in-err-turn
-returns-in-err-turn c =
+pub returns-in_err-turn : goal.returns-in_err-turn
+returns-in_err-turn c =
     let st : SFits w64 c.args.self.turn = search rules in
     let lt : SFits w64 c.args.lag.turn = search rules in
-    let h = simp to_z-of_z at c.in-err-turn.ensures in
-    rw c.from-residual-in-err-turn.ensures (two_beyond total_limit _ _ (inr h))
+    let h = simp to_z-of_z at c.in_err-turn.ensures in
+    rw c.from_residual-in_err-turn.ensures (two_beyond total_limit _ _ (inr h))

@@ -22,8 +22,8 @@ loop-k-preserved g c =
     let f : ℕ → Option Row = λ i. added (times K.row c.args.starts.now i) (lags K.amount (events c.args.stages) c.args.table.now c.args.to i) in
     latest_step K.wide (λ j. f (start j))
     (λ j q e. added_wide K.wide K.row K.amount g.met.K.Mark.row_wide g.met.K.Mark.amount_wide (get_or c.args.starts.now (start j) None) (get_or c.args.table.now (place (events c.args.stages) c.args.to (start j)) None) q e)
-    c.loop-k.k (option_map K.row c.loop-k.latest) (option_map K.row c.arrival.result) (option_map K.row c.later-of-latest.result)
-    (c.arrival.ensures ∙ ap f at) c.loop-k.invariant c.later-of-latest.ensures
+    c.loop-k.k (option_map K.row c.loop-k.latest) (option_map K.row c.arrival.result) (option_map K.row c.later_of-latest.result)
+    (c.arrival.ensures ∙ ap f at) c.loop-k.invariant c.later_of-latest.ensures
 
 pub loop-k-init : goal.loop-k-init
 loop-k-init g c = among_none _

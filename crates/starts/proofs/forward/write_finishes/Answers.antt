@@ -19,8 +19,8 @@ loop-stage-preserved g c =
     let at : 2 * c.loop-stage.stage + 2 ≡ finish (suc c.loop-stage.stage) = omega arith in
     let long : length c.loop-stage.finishes ≡ length c.args.finishes.now = c.loop-stage.auto.finishes ∙ length-set c.args.finishes.now 0 None in
     let room : 2 * c.loop-stage.stage + 2 < length c.loop-stage.finishes = omega (arith, c.requires.1.1) in
-    filled_step K.row S F c.loop-stage.stage (set c.args.finishes.now 0 None) c.loop-stage.finishes c.put-stage.new.totals None c.latest-arrival-finish.result room c.put-stage.ensures c.loop-stage.invariant refl
-    (subst (λ (i : ℕ). Finished c.args.stages (lags K.amount (events c.args.stages) c.args.table.now) (times K.row c.args.starts.now) i (option_map K.row c.latest-arrival-finish.result)) at c.latest-arrival-finish.ensures)
+    filled_step K.row S F c.loop-stage.stage (set c.args.finishes.now 0 None) c.loop-stage.finishes c.put_stage.new.totals None c.latest_arrival-finish.result room c.put_stage.ensures c.loop-stage.invariant refl
+    (subst (λ (i : ℕ). Finished c.args.stages (lags K.amount (events c.args.stages) c.args.table.now) (times K.row c.args.starts.now) i (option_map K.row c.latest_arrival-finish.result)) at c.latest_arrival-finish.ensures)
 
 pub returns : goal.returns
 returns g c =

@@ -5,5 +5,5 @@ use Rattle.tables.proofs.layout.put_lag.Goals as goal
 
 pub returns-else-at-table : goal.returns-else-at-table
 returns-else-at-table g c few to from =
-    let e = c.place-of-at.ensures few to from in
+    let e = c.place_of-at.ensures few to from in
     sym (set_past c.args.table.now (place c.args.count c.args.to c.args.from) c.args.lag (omega arith))

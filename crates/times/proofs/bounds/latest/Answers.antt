@@ -8,15 +8,15 @@ use Rattle.times.proofs.bounds.latest.Goals as goal
 pub returns-in-Some : goal.returns-in-Some
 returns-in-Some g c =
     let K = g.K.Mark in
-    let passed = c.in-ok-count.ensures in
-    let shown = refused K.wide c.in-ok-count.count _ (λ m. lags K.amount m c.args.table.now) passed.1.0.count c.args.loop_row.now c.contradiction.new.loop_row c.in-Some.len c.in-Some.ensures in
+    let passed = c.in_ok-count.ensures in
+    let shown = refused K.wide c.in_ok-count.count _ (λ m. lags K.amount m c.args.table.now) passed.1.0.count c.args.loop_row.now c.contradiction.new.loop_row c.in-Some.len c.in-Some.ensures in
     inr (search rules, (shown.0, (c.in-Some.len, refl, (refl, shown.1))))
 
 pub returns : goal.returns
 returns g c =
     let K = g.K.Mark in
-    let m = c.in-ok-count.count in
-    let passed = c.in-ok-count.ensures in
-    let has = granted K.wide m _ (λ m. lags K.amount m c.args.table.now) passed.1.0.count c.args.loop_row.now c.contradiction.new.loop_row c.in-default.ensures in
-    let P : ℕ → Type 0 = λ k. GreatestTimes K.wide k (lags K.amount k c.args.table.now) (times K.row c.turn-back.new.totals) × (drop k c.turn-back.new.totals ≡ drop k c.args.answer.now) in
-    (search rules, (has.0, (subst P passed.1.0.count (turned_back K.wide m (lags K.amount m c.args.table.now) K.row c.greatest-times.new.turned c.args.answer.now c.turn-back.new.totals c.greatest-times.ensures c.turn-back.ensures, c.turn-back.ensures.1), has.1)))
+    let m = c.in_ok-count.count in
+    let passed = c.in_ok-count.ensures in
+    let has = granted K.wide m _ (λ m. lags K.amount m c.args.table.now) passed.1.0.count c.args.loop_row.now c.contradiction.new.loop_row c.in_default.ensures in
+    let P : ℕ → Type 0 = λ k. GreatestTimes K.wide k (lags K.amount k c.args.table.now) (times K.row c.turn_back.new.totals) × (drop k c.turn_back.new.totals ≡ drop k c.args.answer.now) in
+    (search rules, (has.0, (subst P passed.1.0.count (turned_back K.wide m (lags K.amount m c.args.table.now) K.row c.greatest_times.new.turned c.args.answer.now c.turn_back.new.totals c.greatest_times.ensures c.turn_back.ensures, c.turn_back.ensures.1), has.1)))

@@ -6,6 +6,6 @@ pub returns-in-Less : goal.returns-in-Less
 returns-in-Less g c =
     simp (c.in-Some.is, c.in-Some-other.is) (earlier_first (g.K.Mark.row c.in-Some.x) (g.K.Mark.row c.in-Some-other.y) c.in-Less.ensures)
 
-pub returns-in-default-order : goal.returns-in-default-order
-returns-in-default-order g c =
-    simp (c.in-Some.is, c.in-Some-other.is) (earlier_second (g.K.Mark.row c.in-Some.x) (g.K.Mark.row c.in-Some-other.y) (not_less c.order.result (g.K.Mark.row c.in-Some.x) (g.K.Mark.row c.in-Some-other.y) c.order.ensures c.in-default-order.not-Less))
+pub returns-in_default-order : goal.returns-in_default-order
+returns-in_default-order g c =
+    simp (c.in-Some.is, c.in-Some-other.is) (earlier_second (g.K.Mark.row c.in-Some.x) (g.K.Mark.row c.in-Some-other.y) (not_less c.order.result (g.K.Mark.row c.in-Some.x) (g.K.Mark.row c.in-Some-other.y) c.order.ensures c.in_default-order.not-Less))

@@ -6,20 +6,20 @@ use Rattle.rows.specs.Rows.{inside, bounded}
 use Rattle.marks.proofs.Parts.{inside_more, inside_out, part_missing}
 use Rattle.totals.proofs.given.is_given.Goals as goal
 
-pub returns-in-default : goal.returns-in-default
-returns-in-default g c =
-    absurd (part_missing (g.K.Mark.row c.args.total) c.loop-index.index (omega (arith, g.met.K.Mark.row_wide c.args.total)) (sym c.part.ensures ∙ c.in-default.is))
+pub returns-in_default : goal.returns-in_default
+returns-in_default g c =
+    absurd (part_missing (g.K.Mark.row c.args.total) c.loop-index.index (omega (arith, g.met.K.Mark.row_wide c.args.total)) (sym c.part.ensures ∙ c.in_default.is))
 
-pub returns-then-not-within-given : goal.returns-then-not-within-given
-returns-then-not-within-given g c =
+pub returns-then-not-within_given : goal.returns-then-not-within_given
+returns-then-not-within_given g c =
     let f : SFits w64 c.in-Some.part = search rules in
-    let out : bounded given_limit c.in-Some.part ≡ false = simp to_z-of_z at (sym c.if-not-within-given.ensures) in
+    let out : bounded given_limit c.in-Some.part ≡ false = simp to_z-of_z at (sym c.if-not-within_given.ensures) in
     inside_out given_limit (g.K.Mark.row c.args.total) c.loop-index.index c.in-Some.part (sym c.in-Some.ensures) out c.loop-index.invariant
 
 pub loop-index-preserved : goal.loop-index-preserved
 loop-index-preserved g c =
     let f : SFits w64 c.in-Some.part = search rules in
-    let ok : bounded given_limit c.in-Some.part ≡ true = simp to_z-of_z at (sym c.if-not-within-given.ensures) in
+    let ok : bounded given_limit c.in-Some.part ≡ true = simp to_z-of_z at (sym c.if-not-within_given.ensures) in
     inside_more given_limit (g.K.Mark.row c.args.total) c.loop-index.index c.in-Some.part (sym c.in-Some.ensures) ok c.loop-index.invariant
 
 pub returns : goal.returns

@@ -7,16 +7,16 @@ use Rattle.turned.proofs.Turning.{part_none, part_some, part_inside}
 use Rattle.turned.proofs.TurnedMark.part.Given as given
 use Rattle.turned.proofs.TurnedMark.part.Goals as goal
 
-pub returns-in-err-number : goal.returns-in-err-number
-returns-in-err-number g c =
-    c.from-residual.ensures ∙ part_none (g.M.Mark.row c.args.self.inner) c.args.index c.in-err-number.ensures
+pub returns-in_err-number : goal.returns-in_err-number
+returns-in_err-number g c =
+    c.from_residual.ensures ∙ part_none (g.M.Mark.row c.args.self.inner) c.args.index c.in_err-number.ensures
 
-inside : (g : given.Over) (c : goal.In-ok-number g) → Inside total_limit c.in-ok-number.number
+inside : (g : given.Over) (c : goal.In_ok-number g) → Inside total_limit c.in_ok-number.number
 inside g c =
-    part_inside total_limit (g.M.Mark.row c.args.self.inner) c.args.index c.in-ok-number.number (g.met.M.Mark.row_limit c.args.self.inner) c.in-ok-number.ensures
+    part_inside total_limit (g.M.Mark.row c.args.self.inner) c.args.index c.in_ok-number.number (g.met.M.Mark.row_limit c.args.self.inner) c.in_ok-number.ensures
 
-pub overflow-sub-result : goal.overflow-sub-result
-overflow-sub-result g c =
+pub overflow_sub-result : goal.overflow_sub-result
+overflow_sub-result g c =
     let low = (inside g c).0 in
     let high = (inside g c).1 in
     omega (arith, ints, relations.machine)
@@ -25,5 +25,5 @@ pub returns : goal.returns
 returns g c =
     let low = (inside g c).0 in
     let high = (inside g c).1 in
-    let e : to_z w64 (of_z w64 (pos 0 -ℤ to_z w64 (of_z w64 c.in-ok-number.number))) ≡ neg_ℤ c.in-ok-number.number = omega (arith, ints, relations.machine) in
-    ap (λ (n : ℤ). Some n) e ∙ part_some (g.M.Mark.row c.args.self.inner) c.args.index c.in-ok-number.number c.in-ok-number.ensures
+    let e : to_z w64 (of_z w64 (pos 0 -ℤ to_z w64 (of_z w64 c.in_ok-number.number))) ≡ neg_ℤ c.in_ok-number.number = omega (arith, ints, relations.machine) in
+    ap (λ (n : ℤ). Some n) e ∙ part_some (g.M.Mark.row c.args.self.inner) c.args.index c.in_ok-number.number c.in_ok-number.ensures

@@ -17,8 +17,8 @@ pub fn arrival<K: Mark>(
     to: usize,
     from: usize,
 ) -> Option<K>
-    requires { (count ≤ 63) × ((to < count) × ((from < count) × (Given (times row totals.now from)))) }
-    ensures { option_map row result ≡ added (times row totals.now from) (lags amount count table.now to from) }
+    requires { (count ≤ 63) × ((to < count) × ((from < count) × (Given (times K.Mark.row totals.now from)))) }
+    ensures { option_map K.Mark.row result ≡ added (times K.Mark.row totals.now from) (lags K.Mark.amount count table.now to from) }
 {
     sum_of(time_at(totals, from), lag_at::<K>(count, table, to, from))
 }
@@ -31,8 +31,8 @@ pub fn departure<K: Mark>(
     to: usize,
     from: usize,
 ) -> Option<K>
-    requires { (count ≤ 63) × ((to < count) × ((from < count) × (Given (times row totals.now to)))) }
-    ensures { option_map row result ≡ taken (times row totals.now to) (lags amount count table.now to from) }
+    requires { (count ≤ 63) × ((to < count) × ((from < count) × (Given (times K.Mark.row totals.now to)))) }
+    ensures { option_map K.Mark.row result ≡ taken (times K.Mark.row totals.now to) (lags K.Mark.amount count table.now to from) }
 {
     difference_of(time_at(totals, to), lag_at::<K>(count, table, to, from))
 }
