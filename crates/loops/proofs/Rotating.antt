@@ -3,7 +3,7 @@ use Rattle.std.proofs.Common.{◌≡◌, ℕ, zero, suc, ◌+◌, ◌-◌, ◌<�
 use Rattle.std.proofs.lemmas.List.{get_or_append_left, get_or-append_right, get_or-drop, get_or-take, length-drop, length-take, length-append, take_more, take_more_set, take_all, drop-set-lt, drop-drop}
 use Rattle.std.proofs.lemmas.Bool.{cases_eq}
 use Rattle.schedules.specs.Walks.{backs}
-use Rattle.schedules.proofs.Found.{length-backs, slice_index-backs}
+use Rattle.schedules.proofs.Found.{length-backs, get_or-backs}
 use Rattle.loops.specs.Trails.{Holds, LowUnder, on, rotated, RotatedIn}
 
 length-rotated : (lo : ℕ) (es : List ℕ) → lo ≤ length es → length (rotated lo es) ≡ length es
@@ -30,13 +30,13 @@ module _ (p : ℕ → ℕ) (c d low : ℕ) (after : c < low) (within : low ≤ d
   pub circle_front : (j t : ℕ) → t ≡ 0 → j < low - c → p (low + t - j) ≡ get_or (rotated (d - low) (backs p c (d - c))) j 0
   circle_front j t e h =
       let n : length (backs p c (d - c)) ≡ d - c = length-backs p c (d - c) in
-      sym (rotated_front (d - low) (backs p c (d - c)) j (omega arith) ∙ slice_index-backs p c (d - c) (d - low + j) (omega arith) ∙ ap p (omega arith))
+      sym (rotated_front (d - low) (backs p c (d - c)) j (omega arith) ∙ get_or-backs p c (d - c) (d - low + j) (omega arith) ∙ ap p (omega arith))
 
   -- and on from the last
   pub circle_rest : (j t : ℕ) → t ≡ d - c → low - c ≤ j → j < d - c → p (low + t - j) ≡ get_or (rotated (d - low) (backs p c (d - c))) j 0
   circle_rest j t e h k =
       let n : length (backs p c (d - c)) ≡ d - c = length-backs p c (d - c) in
-      sym (rotated_rest (d - low) (backs p c (d - c)) j (omega arith) (omega arith) (omega arith) ∙ slice_index-backs p c (d - c) (d - low + j - length (backs p c (d - c))) (omega arith) ∙ ap p (omega arith))
+      sym (rotated_rest (d - low) (backs p c (d - c)) j (omega arith) (omega arith) (omega arith) ∙ get_or-backs p c (d - c) (d - low + j - length (backs p c (d - c))) (omega arith) ∙ ap p (omega arith))
 
 -- one place more
 pub take_same_more : (row es : List ℕ) (j x : ℕ) → j < length row → j < length es → take j row ≡ take j es → x ≡ get_or es j 0 → take (j + 1) (set row j x) ≡ take (j + 1) es

@@ -1,5 +1,5 @@
 -- The walk back over the events that totals came from, and the loop that it closes.
-use Rattle.std.specs.Prelude.{◌≡◌, ℕ, zero, suc, ◌+◌, ◌-◌, ◌*◌, ◌<◌, ◌≤◌, List, ◌++◌, take, drop, Some, None, Option, ◌≢◌, slice_index}
+use Rattle.std.specs.Prelude.{◌≡◌, ℕ, zero, suc, ◌-◌, ◌*◌, ◌<◌, ◌≤◌, List, ◌++◌, take, drop, Some, None, Option, ◌≢◌, slice_index}
 use Rattle.schedules.specs.Walks.{Apart, backs, kept_at, walk}
 
 -- The events that totals came from are kept round by round, 63 places for each.

@@ -1,5 +1,5 @@
 // Rounds: every event's total raised to what the lags ask, all sums read from the totals before.
-ghost use Rattle.std.specs.Prelude.{◌≡◌, ℕ, ◌+◌, ◌<◌, ◌≤◌, length, get_or, None, slice_index, slice_index_or};
+ghost use Rattle.std.specs.Prelude.{◌≡◌, ℕ, ◌+◌, ◌<◌, ◌≤◌, length, None, slice_index, slice_index_or};
 ghost use Rattle.std.specs.Option.{option_map};
 ghost use Rattle.tables.specs.Tables.{times, Written};
 ghost use Rattle.network.specs.Networks.{Net, SumsInside};
@@ -83,7 +83,7 @@ pub fn go_round<N: Network>(
 // The first totals of one row, put into another; the other places are kept.
 pub fn copy_totals<K: Mark>(count: usize, from: &[Option<K>], to: &mut [Option<K>])
     requires { (count ≤ length from.now) × (count ≤ length to.old) }
-    ensures { Written (λ v. get_or from.now v None) count to.old to.new }
+    ensures { Written (λ v. slice_index_or from.now v None) count to.old to.new }
 {
     for event in 0..count {
         to[event] = from[event];

@@ -1,5 +1,5 @@
 -- The order of rows.
-use Rattle.std.proofs.Common.{◌≡◌, ℕ, ◌+◌, ◌≤◌, ◌⊎◌, [], ◌∷◌, length, ℤ, ◌+ℤ◌, neg_ℤ, ◌≤ℤ◌, sym, refl, ap, ◌∙◌, subst, inl, inr, arith}
+use Rattle.std.proofs.Common.{◌≡◌, ℕ, ◌≤◌, ◌⊎◌, [], ◌∷◌, length, ℤ, ◌+ℤ◌, neg_ℤ, ◌≤ℤ◌, sym, refl, ap, ◌∙◌, subst, inl, inr, arith}
 use Rattle.std.proofs.lemmas.Int.{ints, by_lt_z}
 use Rattle.rows.specs.Rows.{Row, zeros, plus, minus, negated, Before, NotBefore}
 use Rattle.rows.proofs.Sums.{cons≡, length-plus, length-zeros, plus-zeros, plus_comm, plus-minus, length-negated, negated-negated}
@@ -18,18 +18,18 @@ before_trans (a ∷ x) (b ∷ y) (c ∷ z) (inl p) (inr q) = inl (omega (arith, 
 before_trans (a ∷ x) (b ∷ y) (c ∷ z) (inr p) (inl q) = inl (omega (arith, ints))
 before_trans (a ∷ x) (b ∷ y) (c ∷ z) (inr p) (inr q) = inr (p.0 ∙ q.0, before_trans x y z p.1 q.1)
 
-pub before-plus : (x y z : Row) → length x ≡ length z → Before x y → Before (plus x z) (plus y z)
-before-plus [] y z e h = absurd h
-before-plus (a ∷ x) [] z e h = absurd h
-before-plus (a ∷ x) (b ∷ y) [] e h = absurd (omega arith)
-before-plus (a ∷ x) (b ∷ y) (c ∷ z) e (inl h) = inl (omega (arith, ints))
-before-plus (a ∷ x) (b ∷ y) (c ∷ z) e (inr h) = inr (ap (λ (t : ℤ). t +ℤ c) h.0, before-plus x y z (omega arith) h.1)
+pub before_plus : (x y z : Row) → length x ≡ length z → Before x y → Before (plus x z) (plus y z)
+before_plus [] y z e h = absurd h
+before_plus (a ∷ x) [] z e h = absurd h
+before_plus (a ∷ x) (b ∷ y) [] e h = absurd (omega arith)
+before_plus (a ∷ x) (b ∷ y) (c ∷ z) e (inl h) = inl (omega (arith, ints))
+before_plus (a ∷ x) (b ∷ y) (c ∷ z) e (inr h) = inr (ap (λ (t : ℤ). t +ℤ c) h.0, before_plus x y z (omega arith) h.1)
 
-pub before-negated : (x y : Row) → Before x y → Before (negated y) (negated x)
-before-negated [] y h = absurd h
-before-negated (a ∷ x) [] h = absurd h
-before-negated (a ∷ x) (b ∷ y) (inl h) = inl (omega (arith, ints))
-before-negated (a ∷ x) (b ∷ y) (inr h) = inr (ap neg_ℤ (sym h.0), before-negated x y h.1)
+pub before_negated : (x y : Row) → Before x y → Before (negated y) (negated x)
+before_negated [] y h = absurd h
+before_negated (a ∷ x) [] h = absurd h
+before_negated (a ∷ x) (b ∷ y) (inl h) = inl (omega (arith, ints))
+before_negated (a ∷ x) (b ∷ y) (inr h) = inr (ap neg_ℤ (sym h.0), before_negated x y h.1)
 
 -- which of two rows of one width is before the other
 pub data Compared (x y : Row) : Type 0 where
@@ -82,12 +82,12 @@ NotBefore-antisym x y e h k = go (compared x y e)
 
 pub NotBefore-negated : (x y : Row) → NotBefore x y → NotBefore (negated y) (negated x)
 NotBefore-negated x y h b =
-    h (subst (λ (r : Row). Before r y) (negated-negated x) (subst (λ (r : Row). Before (negated (negated x)) r) (negated-negated y) (before-negated (negated y) (negated x) b)))
+    h (subst (λ (r : Row). Before r y) (negated-negated x) (subst (λ (r : Row). Before (negated (negated x)) r) (negated-negated y) (before_negated (negated y) (negated x) b)))
 
 -- a sum keeps the order, and so does taking away
 pub NotBefore-plus : (x y z : Row) → length x ≡ length z → length y ≡ length z → NotBefore x y → NotBefore (plus x z) (plus y z)
 NotBefore-plus x y z e f h b =
-    h (subst (λ (r : Row). Before r y) (plus-minus x z e) (subst (λ (r : Row). Before (minus (plus x z) z) r) (plus-minus y z f) (before-plus (plus x z) (plus y z) (negated z) (lengths) b)))
+    h (subst (λ (r : Row). Before r y) (plus-minus x z e) (subst (λ (r : Row). Before (minus (plus x z) z) r) (plus-minus y z f) (before_plus (plus x z) (plus y z) (negated z) (lengths) b)))
   where
     lengths : length (plus x z) ≡ length (negated z)
     lengths = length-plus x z (length z) e refl ∙ sym (length-negated z)
@@ -110,10 +110,10 @@ NotBefore-sum x y z h b = h (before_cancel x y z b)
 -- a sum with what is after zero comes later, and only with that
 pub before_raised : (w : ℕ) (t r : Row) → length t ≡ w → Before (zeros w) r → Before t (plus t r)
 before_raised w t r e h =
-    subst (λ (s : Row). Before s (plus t r)) (plus_comm (zeros w) t ∙ plus-zeros w t e) (subst (λ (s : Row). Before (plus (zeros w) t) s) (plus_comm r t) (before-plus (zeros w) r t (length-zeros w ∙ sym e) h))
+    subst (λ (s : Row). Before s (plus t r)) (plus_comm (zeros w) t ∙ plus-zeros w t e) (subst (λ (s : Row). Before (plus (zeros w) t) s) (plus_comm r t) (before_plus (zeros w) r t (length-zeros w ∙ sym e) h))
 
-pub Raised-before : (w : ℕ) (t r : Row) → length t ≡ w → Before t (plus t r) → Before (zeros w) r
-Raised-before w t r e h =
+pub raised_before : (w : ℕ) (t r : Row) → length t ≡ w → Before t (plus t r) → Before (zeros w) r
+raised_before w t r e h =
     before_cancel (zeros w) r t (subst (λ (s : Row). Before s (plus r t)) (sym (plus_comm (zeros w) t ∙ plus-zeros w t e)) (subst (λ (s : Row). Before t s) (plus_comm t r) h))
 
 -- before, and then at least

@@ -14,10 +14,10 @@ pub length-backs : (p : ℕ → ℕ) (c i : ℕ) → length (backs p c i) ≡ i
 length-backs p c zero = refl
 length-backs p c (suc i) = ap suc (length-backs p c i)
 
-pub slice_index-backs : (p : ℕ → ℕ) (c i j : ℕ) → j < i → get_or (backs p c i) j 0 ≡ p (c + i - j)
-slice_index-backs p c zero j h = absurd (omega arith)
-slice_index-backs p c (suc i) zero h = ap p (omega arith)
-slice_index-backs p c (suc i) (suc j) h = slice_index-backs p c i j (omega arith) ∙ ap p (omega arith)
+pub get_or-backs : (p : ℕ → ℕ) (c i j : ℕ) → j < i → get_or (backs p c i) j 0 ≡ p (c + i - j)
+get_or-backs p c zero j h = absurd (omega arith)
+get_or-backs p c (suc i) zero h = ap p (omega arith)
+get_or-backs p c (suc i) (suc j) h = get_or-backs p c i j (omega arith) ∙ ap p (omega arith)
 
 module _ (w m : ℕ) (L : Lags) (wide : Wide w m L) (S : Totals) (sized : Sized w m S) (n : ℕ) (from : ℕ → ℕ → ℕ) (traced : Traced m L S n from) (p : ℕ → ℕ) (d : ℕ) (walked : Walked from n p d) (short : d ≤ n) (start : p 0 < m) (some : 1 ≤ n) (changed : Changed m L S (n - 1) (p 0)) where
   -- p d is p c, and those before are all different: the events from p d back to p (c + 1), turned at the lowest, are a loop

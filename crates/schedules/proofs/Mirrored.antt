@@ -3,7 +3,7 @@ use Rattle.std.proofs.Common.{◌≡◌, ℕ, ◌↔◌, length, sym, ap, ◌∙
 use mathlib.Core.Path.{fun_ext}
 use Rattle.rows.specs.Rows.{Row, plus, negated, Before, NotBefore}
 use Rattle.rows.proofs.Sums.{length-negated, negated-negated, negated-zeros, negated-plus, minus_plus}
-use Rattle.rows.proofs.Order.{before-negated, NotBefore-negated, NotBefore-sum}
+use Rattle.rows.proofs.Order.{before_negated, NotBefore-negated, NotBefore-sum}
 use Rattle.schedules.specs.Plans.{Lags, Wide, Schedule, Schedulable, Earliest, FreeBelow, Latest, FreeAbove, reversed}
 
 pub Wide-reversed : (w m : ℕ) (L : Lags) → Wide w m L → Wide w m (reversed L)
@@ -53,12 +53,12 @@ module _ (w m : ℕ) where
     pub above_mirrored : (e : ℕ) → FreeAbove w m L e → FreeBelow w m (reversed L) e
     above_mirrored e f r h =
         let t = f (negated r) (length-negated r ∙ h) in
-        (λ v. negated (t.0 v), (mirrored L wide t.0 t.1.0, subst (λ (z : Row). Before (negated (t.0 e)) z) (negated-negated r) (before-negated (negated r) (t.0 e) t.1.1)))
+        (λ v. negated (t.0 v), (mirrored L wide t.0 t.1.0, subst (λ (z : Row). Before (negated (t.0 e)) z) (negated-negated r) (before_negated (negated r) (t.0 e) t.1.1)))
 
     pub below_mirrored : (e : ℕ) → FreeBelow w m (reversed L) e → FreeAbove w m L e
     below_mirrored e f r h =
         let t = f (negated r) (length-negated r ∙ h) in
-        (λ v. negated (t.0 v), (mirrored_back t.0 t.1.0, subst (λ (z : Row). Before z (negated (t.0 e))) (negated-negated r) (before-negated (t.0 e) (negated r) t.1.1)))
+        (λ v. negated (t.0 v), (mirrored_back t.0 t.1.0, subst (λ (z : Row). Before z (negated (t.0 e))) (negated-negated r) (before_negated (t.0 e) (negated r) t.1.1)))
 
     -- the greatest times are the least of the mirrored plan
     pub mirrored_latest : (e : ℕ) (r : Row) → Latest w m L e r ↔ Earliest w m (reversed L) e (negated r)

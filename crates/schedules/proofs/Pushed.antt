@@ -2,7 +2,7 @@
 use Rattle.std.proofs.Common.{◌≡◌, ℕ, ◌<◌, ◌≤◌, length, Some, None, Option, sym, refl, ap, ◌∙◌, subst, subst₂}
 use Rattle.rows.specs.Rows.{Row, plus, minus, negated, Before, NotBefore}
 use Rattle.rows.proofs.Sums.{length-minus, plus_assoc, plus_comm, plus_swap, minus_plus}
-use Rattle.rows.proofs.Order.{before-plus, NotBefore-sum, NotBefore-trans}
+use Rattle.rows.proofs.Order.{before_plus, NotBefore-sum, NotBefore-trans}
 use Rattle.schedules.specs.Plans.{Lags, Wide, Schedule}
 use Rattle.rows.specs.MaxPlus.{added}
 use Rattle.schedules.specs.Rounds.{rounds, opening, Settled}
@@ -22,7 +22,7 @@ gap_kept y r d e f h =
 
 pub gap_before : (w : ℕ) (y r d : Row) → length y ≡ w → length r ≡ w → length d ≡ w → Before (minus y r) d → Before (minus y d) r
 gap_before w y r d e f g h =
-    subst₂ (λ (p q : Row). Before p q) (shifted_gap y r d (e ∙ sym f)) (around d r (f ∙ sym g)) (before-plus (minus y r) d (minus r d) (length-minus y r w e f ∙ sym (length-minus r d w f g)) h)
+    subst₂ (λ (p q : Row). Before p q) (shifted_gap y r d (e ∙ sym f)) (around d r (f ∙ sym g)) (before_plus (minus y r) d (minus r d) (length-minus y r w e f ∙ sym (length-minus r d w f g)) h)
 
 -- where an event stands: at its total, or its time less D
 abbrev pub pushed_row : Row → Row → Option Row → Row

@@ -2,7 +2,7 @@
 use Rattle.std.proofs.Common.{◌≡◌, ℕ, zero, suc, ◌+◌, ◌-◌, ◌<◌, ◌≤◌, ◌∷◌, Some, Option, sym, refl, ap, ◌∙◌, subst, subst₂, inl, inr, add-suc, add-one, arith}
 use Rattle.rows.specs.Rows.{Row, zeros, plus, Before}
 use Rattle.rows.proofs.Sums.{plus_assoc}
-use Rattle.rows.proofs.Order.{Raised-before}
+use Rattle.rows.proofs.Order.{raised_before}
 use Rattle.schedules.specs.Plans.{Lags, Wide, Chain, Has, Distinct, Totals}
 use Rattle.rows.specs.MaxPlus.{added}
 use Rattle.schedules.specs.Rounds.{rounds, Changed}
@@ -114,7 +114,7 @@ module _ (w m : ℕ) (L : Lags) (wide : Wide w m L) (S : Totals) (sized : Sized 
         raised = below_under w (rounds m L S j (p c)) (rounds m L S g (p c)) (rounds m L S (suc g) (p c)) (rounds_sized w m L wide S sized j (p c) c_in) (rounds_sized w m L wide S sized g (p c) c_in) (rounds_mono w m L wide S sized j g (p c) c_in (omega arith)) (changed_rises w m L wide S sized g (p c) c_in (walk_changed c g (omega arith) (omega arith)).1)
 
         after : Before (zeros w) s.sum
-        after = Raised-before w s.first s.sum (Rowed-to w (rounds m L S j (p c)) s.first known (rounds_sized w m L wide S sized j (p c) c_in)) (subst₂ (λ (o q : Option Row). Below o q) known s.adds raised)
+        after = raised_before w s.first s.sum (Rowed-to w (rounds m L S j (p c)) s.first known (rounds_sized w m L wide S sized j (p c) c_in)) (subst₂ (λ (o q : Option Row). Below o q) known s.adds raised)
 
 -- events met after p c, which are all different, are distinct
 

@@ -1,5 +1,5 @@
 -- How set ends, for every input. `amount` says what lags mean, w is the width.
-use Rattle.std.specs.Prelude.{◌≡◌, ℕ, max, List, [], ◌∷◌, ◌++◌, length, set, ℤ, Some, Option, Result, slice_set}
+use Rattle.std.specs.Prelude.{◌≡◌, ℕ, max, List, [], ◌∷◌, ◌++◌, length, ℤ, Some, Option, Result, slice_set}
 use Rattle.rows.specs.Rows.{Row}
 use Rattle.schedules.specs.Answers.{Shown}
 use Rattle.schedules.specs.Plans.{Lags, Schedulable, with_lag}

@@ -3,7 +3,7 @@ use Rattle.std.proofs.Common.{◌≡◌, ℕ, suc, ◌-◌, ◌<◌, ◌≤◌, 
 use Rattle.schedules.specs.Plans.{Lags, Loop}
 use Rattle.schedules.specs.Rounds.{everywhere}
 use Rattle.schedules.specs.Walks.{backs}
-use Rattle.schedules.proofs.Found.{slice_index-backs, walk_loop}
+use Rattle.schedules.proofs.Found.{get_or-backs, walk_loop}
 use Rattle.schedules.proofs.Rounds.{everywhere_sized}
 use Rattle.schedules.proofs.Walks.{walk_below}
 use Rattle.network.specs.Networks.{Net}
@@ -22,7 +22,7 @@ module _ (w m : ℕ) (L : Lags) (net : Net w m L) (sources : List ℕ) (v : ℕ)
     event_at : (i j : ℕ) → suc i ≡ wrote.last - wrote.first → j < suc i → get_or (backs (back m sources v) wrote.first (suc i)) j 0 ≡ back m sources v (wrote.last - j)
     event_at i j e h =
         let order : wrote.first < wrote.last = wrote.met.order in
-        slice_index-backs (back m sources v) wrote.first (suc i) j h ∙ ap (back m sources v) (omega arith)
+        get_or-backs (back m sources v) wrote.first (suc i) j h ∙ ap (back m sources v) (omega arith)
 
     lowest : (i : ℕ) → suc i ≡ wrote.last - wrote.first → (j : ℕ) → j < suc i → get_or (backs (back m sources v) wrote.first (suc i)) (wrote.last - wrote.low) 0 ≤ get_or (backs (back m sources v) wrote.first (suc i)) j 0
     lowest i e j h =
@@ -32,8 +32,8 @@ module _ (w m : ℕ) (L : Lags) (net : Net w m L) (sources : List ℕ) (v : ℕ)
         let here : back m sources v (wrote.last - (wrote.last - wrote.low)) ≡ back m sources v wrote.low = ap (back m sources v) (omega arith) in
         omega (arith, event_at i (wrote.last - wrote.low) e (omega arith), event_at i j e h, here, wrote.least (wrote.last - j) (omega arith) (omega arith))
 
-    loop-of : (i : ℕ) → suc i ≡ wrote.last - wrote.first → Loop w m L (rotated (wrote.last - wrote.low) (backs (back m sources v) wrote.first (suc i)))
-    loop-of i e =
+    loop_of : (i : ℕ) → suc i ≡ wrote.last - wrote.first → Loop w m L (rotated (wrote.last - wrote.low) (backs (back m sources v) wrote.first (suc i)))
+    loop_of i e =
         let order : wrote.first < wrote.last = wrote.met.order in
         let low_after : wrote.first < wrote.low = wrote.after_first in
         walk_loop w m L net.wide (everywhere w) (everywhere_sized w m) m (from_in sources) ended.2 (back m sources v) wrote.last (λ i h. refl) wrote.met.short ended.0 net.some ended.1 wrote.first i (omega arith) wrote.met.same wrote.met.apart (wrote.last - wrote.low) (omega arith) (lowest i e)
@@ -44,7 +44,7 @@ module _ (w m : ℕ) (L : Lags) (net : Net w m L) (sources : List ℕ) (v : ℕ)
         let short : wrote.last ≤ m = wrote.met.short in
         let size : len ≡ wrote.last - wrote.first = wrote.size in
         let more : suc (wrote.last - wrote.first - 1) ≡ wrote.last - wrote.first = omega arith in
-        let looped = subst (λ (k : ℕ). Loop w m L (rotated (wrote.last - wrote.low) (backs (back m sources v) wrote.first k))) more (loop-of (wrote.last - wrote.first - 1) more) in
+        let looped = subst (λ (k : ℕ). Loop w m L (rotated (wrote.last - wrote.low) (backs (back m sources v) wrote.first k))) more (loop_of (wrote.last - wrote.first - 1) more) in
         (omega arith, subst (Loop w m L) (sym (ap (λ (k : ℕ). take k after) size ∙ wrote.rotated_in.events)) looped, ap (λ (k : ℕ). drop k after) size ∙ wrote.rotated_in.rest ∙ ap (λ (k : ℕ). drop k row) (sym size))
 
 -- the program's count n is the size m

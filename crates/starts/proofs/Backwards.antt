@@ -3,7 +3,7 @@ use Rattle.std.proofs.Common.{◌≡◌, ℕ, ◌≤◌, ◌↔◌, length, Some
 use Rattle.rows.specs.Extremes.{EarliestOf, Among}
 use Rattle.rows.specs.MaxPlus.{added, taken}
 use Rattle.rows.specs.Rows.{Row, plus, minus, Before, NotBefore}
-use Rattle.rows.proofs.Order.{NotBefore-plus, before-plus}
+use Rattle.rows.proofs.Order.{NotBefore-plus, before_plus}
 use Rattle.rows.proofs.Sums.{minus_plus, length-minus}
 use Rattle.schedules.specs.Plans.{Lags, Totals}
 use Rattle.tables.specs.Tables.{start, finish}
@@ -28,7 +28,7 @@ not_after_sum w d s a wd ws wa h =
 
 pub not_after_difference : (w : ℕ) (d s a : Row) → length d ≡ w → length s ≡ w → length a ≡ w → NotBefore d (plus s a) → NotBefore (minus d a) s
 not_after_difference w d s a wd ws wa h b =
-    h (subst (λ (r : Row). Before r (plus s a)) (minus_plus d a (wd ∙ sym wa)) (before-plus (minus d a) s a (length-minus d a w wd wa ∙ sym wa) b))
+    h (subst (λ (r : Row). Before r (plus s a)) (minus_plus d a (wd ∙ sym wa)) (before_plus (minus d a) s a (length-minus d a w wd wa ∙ sym wa) b))
 
 module _ (w n : ℕ) (L : Lags) (d y : Totals)
     (wide_d : (v : ℕ) (r : Row) → d v ≡ Some r → length r ≡ w) (wide_L : (v u : ℕ) (r : Row) → L v u ≡ Some r → length r ≡ w)

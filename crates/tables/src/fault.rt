@@ -1,7 +1,7 @@
 // What a plan refuses.
 ghost use Rattle.std.specs.Prelude.{◌≡◌};
 ghost use Rattle.tables.specs.Faults.{plan_number, plan_layer};
-ghost use Rattle.tables.specs.declared.fault.PlanFault.TheVariants.{Mark as of-mark};
+ghost use Rattle.tables.specs.declared.fault.PlanFault.TheVariants.{Mark as of_mark};
 
 use marks::fault::{Layer, MarkFault};
 
@@ -27,7 +27,7 @@ pub enum PlanFault {
 
 // A fault of the marks passes up whole.
 impl From<MarkFault> for PlanFault {
-    ghost from_gives = { λ fault r. r ≡ of-mark fault };
+    ghost from_gives = { λ fault r. r ≡ of_mark fault };
 
     fn from(fault: MarkFault) -> PlanFault {
         PlanFault::Mark(fault)

@@ -6,7 +6,7 @@ use Rattle.std.proofs.lemmas.Int.{ints}
 use Rattle.rows.specs.Rows.{Row, Before, Within, negated}
 use Rattle.rows.specs.Limits.{total_limit}
 use Rattle.rows.proofs.Limits.{relations}
-use Rattle.rows.proofs.Order.{before-negated}
+use Rattle.rows.proofs.Order.{before_negated}
 use Rattle.rows.proofs.Sums.{cons≡, negated-negated, Within-negated}
 use Rattle.marks.specs.Meaning.{Makes, part_at}
 use Rattle.turned.specs.Opposites.{all_opposite}
@@ -22,9 +22,9 @@ beyond_turned limit x y e h k =
     h (subst (Within limit) (ap negated (sym e) ∙ negated-negated x) (Within-negated limit y k))
 
 pub ranked_turned : (r : Ordering) (x y : Row) → MatchOrdering r (Before y x) (y ≡ x) (Before x y) → MatchOrdering r (Before (negated x) (negated y)) (negated x ≡ negated y) (Before (negated y) (negated x))
-ranked_turned Less x y h = before-negated y x h
+ranked_turned Less x y h = before_negated y x h
 ranked_turned Equal x y h = ap negated (sym h)
-ranked_turned Greater x y h = before-negated x y h
+ranked_turned Greater x y h = before_negated x y h
 
 -- the parts
 

@@ -1,5 +1,5 @@
 use Rattle.rows.proofs.Sums.{plus_assoc, plus_comm, plus-zeros, plus-negated, Within-plus}
-use Rattle.rows.proofs.Order.{before_irrefl, before_trans, before_total, before-plus}
+use Rattle.rows.proofs.Order.{before_irrefl, before_trans, before_total, before_plus}
 use Rattle.rows.proofs.rows_are_an_ordered_group.Goals as goal
 
 pub returns : goal.returns
@@ -12,7 +12,7 @@ returns c = record {
     irreflexive = before_irrefl;
     transitive = before_trans;
     total = before_total;
-    monotone = before-plus;
+    monotone = before_plus;
   };
   within = Within-plus;
 }
