@@ -12,7 +12,8 @@ use Rattle.tables.specs.Tables.{start, finish}
 use Rattle.starts.specs.Starts.{Backward}
 use Rattle.closest.specs.Closest.{minutes, Reach, Closest}
 use Rattle.closest.specs.Served.{AllServed}
-use Rattle.closest.specs.Steps.{minute, latest, finish_of, miss, largest, Moved}
+use Rattle.closest.specs.Steps.{minute, miss, largest, Moved}
+use Rattle.starts.specs.Steps.{folded, finish_of}
 use Rattle.closest.proofs.Nearest.{begin_there, end_there, miss_is, closest}
 use Rattle.closest.proofs.One.{there, to_not_before}
 use Rattle.rows.specs.Algebra.{Vector, sum, ◌⊗◌, matrix_vector, vector_vector, conjugate, residual}
@@ -44,7 +45,7 @@ sum_minutes_from : (n : ℕ) (f : Vector) (g : ℕ → ℕ) → 1 ≤ n → ((k 
 sum_minutes_from zero f g first h = absurd (omega arith)
 sum_minutes_from (suc n) f g first h = sum_minutes n f g h
 
-sum_is_latest : (n : ℕ) (f : Vector) → sum n (λ k. f (suc k)) ≡ latest n f
+sum_is_latest : (n : ℕ) (f : Vector) → sum n (λ k. f (suc k)) ≡ folded later n f
 sum_is_latest zero f = refl
 sum_is_latest (suc n) f = ap (λ (o : Option Row). later o (f (suc n))) (sum_is_latest n f)
 

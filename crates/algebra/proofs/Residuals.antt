@@ -13,7 +13,8 @@ use Rattle.schedules.specs.Plans.{Lags, Totals}
 use Rattle.schedules.proofs.Optional.{Rowed, AtLeast, Rowed-from, Rowed-to, after_rowed, AtLeast-trans}
 use Rattle.tables.specs.Tables.{start, finish}
 use Rattle.starts.specs.Starts.{Finishes, Backward}
-use Rattle.starts.proofs.Backwards.{added_some, not_after_sum, not_after_difference, backward}
+use Rattle.starts.proofs.Backwards.{not_after_sum, not_after_difference, backward}
+use Rattle.starts.proofs.Widths.{added_some}
 use Rattle.rows.proofs.Options.{none_or_some, same_some}
 use Rattle.rows.specs.Algebra.{Vector, Matrix, sum, ◌⊗◌, ◌≼◌, matrix_vector, conjugate, residual}
 use Rattle.algebra.specs.Matrices.{lag_matrix, starts_of, finishes_of}

@@ -1,42 +1,23 @@
 -- Where there are closest starts, every finish and every start has a start-to-finish lag.
-use Rattle.std.proofs.Common.{◌≡◌, ℕ, zero, suc, ◌<◌, ◌≤◌, true, false, cond, ◌||◌, eqb, ◌⊎◌, [], ◌∷◌, length, ℤ, pos, ◌+ℤ◌, ◌≤ℤ◌, is_some, Some, None, Option, sym, refl, ap, ◌∙◌, subst, inl, inr, arith}
+use Rattle.std.proofs.Common.{◌≡◌, ℕ, ◌≤◌, true, false, cond, eqb, ◌⊎◌, [], ◌∷◌, length, ℤ, pos, ◌+ℤ◌, ◌≤ℤ◌, is_some, Some, None, Option, sym, refl, ap, ◌∙◌, subst, inl, inr, arith}
 use mathlib.Core.Path.{fun_ext}
 use Rattle.std.proofs.lemmas.Int.{ints}
-use Rattle.std.proofs.lemmas.Bool.{cases_Bool, cases_eq, cases_lt, cond-true, cond-false, eq-eqb, ne_eqb, and_from, or_left, or_right, or_parts, true≢false}
+use Rattle.std.proofs.lemmas.Bool.{cases_Bool, cases_eq, cond-true, cond-false, eq-eqb, ne_eqb, and_from, true≢false}
 use Rattle.rows.specs.Extremes.{LatestOf, Among}
 use Rattle.rows.specs.MaxPlus.{added}
 use Rattle.rows.specs.Rows.{Row}
 use Rattle.schedules.specs.Plans.{Lags, Totals}
 use Rattle.tables.specs.Tables.{start, finish}
-use Rattle.starts.proofs.Backwards.{added_some}
+use Rattle.starts.proofs.Widths.{added_some}
 use Rattle.closest.specs.Closest.{Reach, Closest}
 use Rattle.closest.specs.Served.{lag_into, lag_from, AllServed}
 use Rattle.closest.specs.Steps.{minute}
+use Rattle.closest.proofs.Serving.{any_hit, any_none}
 use Rattle.closest.proofs.One.{one_part, from_not_before}
-
-into_hit : (L : Lags) (v k n : ℕ) (a : Row) → 1 ≤ k → k ≤ n → L v (start k) ≡ Some a → lag_into L v n ≡ true
-into_hit L v k zero a low high e = absurd (omega arith)
-into_hit L v k (suc n) a low high e = go (λ h. into_hit L v k n a low h e) (cases_lt n k)
-  where
-    go : (k ≤ n → lag_into L v n ≡ true) → (n < k) ⊎ (k ≤ n) → (lag_into L v n || is_some (L v (start (suc n)))) ≡ true
-    go below (inl h) =
-        let same : k ≡ suc n = omega arith in
-        or_right (lag_into L v n) (is_some (L v (start (suc n)))) (ap is_some (subst (λ (i : ℕ). L v (start i) ≡ Some a) same e))
-    go below (inr h) = or_left (lag_into L v n) (is_some (L v (start (suc n)))) (below h)
 
 none_is : (o : Option Row) → is_some o ≡ false → o ≡ None
 none_is None e = refl
 none_is (Some r) e = absurd (true≢false e)
-
-from_none : (L : Lags) (u j n : ℕ) → 1 ≤ j → j ≤ n → lag_from L u n ≡ false → L (finish j) u ≡ None
-from_none L u j zero low high e = absurd (omega arith)
-from_none L u j (suc n) low high e = go (or_parts (lag_from L u n) (is_some (L (finish (suc n)) u)) e) (λ h q. from_none L u j n low h q) (cases_lt n j)
-  where
-    go : (lag_from L u n ≡ false) × (is_some (L (finish (suc n)) u) ≡ false) → (j ≤ n → lag_from L u n ≡ false → L (finish j) u ≡ None) → (n < j) ⊎ (j ≤ n) → L (finish j) u ≡ None
-    go p below (inl h) =
-        let same : suc n ≡ j = omega arith in
-        subst (λ (i : ℕ). L (finish i) u ≡ None) same (none_is (L (finish (suc n)) u) p.1)
-    go p below (inr h) = below h p.0
 
 added_none : (o : Option Row) → added o None ≡ None
 added_none None = refl
@@ -86,7 +67,7 @@ module _ (n : ℕ) (L : Lags) (d y : Totals) (e : ℕ) (h : Closest n L d y e) w
       let s = h.reached.finishes k low high in
       let a = s.3.0 in
       let p = added_some (y (start a.0)) (L (finish k) (start a.0)) s.1 a.3 in
-      into_hit L (finish k) a.0 n p.1 a.1 a.2 p.3
+      any_hit (λ i. is_some (L (finish k) (start i))) n a.0 a.1 a.2 (ap is_some p.3)
 
   from_served : (k : ℕ) → 1 ≤ k → k ≤ n → lag_from L (start k) n ≡ true
   from_served k low high = go (cases_Bool (lag_from L (start k) n))
@@ -96,7 +77,7 @@ module _ (n : ℕ) (L : Lags) (d y : Totals) (e : ℕ) (h : Closest n L d y e) w
       go (inr q) =
           let s = h.reached.starts k low high in
           let t = minute (Some s.0) +ℤ pos 1 in
-          let free : (j : ℕ) → 1 ≤ j → j ≤ n → L (finish j) (start k) ≡ None = λ j j1 jn. from_none L (start k) j n j1 jn q in
+          let free : (j : ℕ) → 1 ≤ j → j ≤ n → L (finish j) (start k) ≡ None = λ j j1 jn. none_is (L (finish j) (start k)) (any_none (λ i. is_some (L (finish i) (start k))) n j j1 jn q) in
           let is = s.1 ∙ ap (λ (r : Row). Some r) (one_part s.0 s.2) in
           let le : (minute (Some s.0) +ℤ pos 1) ≤ℤ minute (Some s.0) = from_not_before (minute (Some s.0)) (minute (Some s.0) +ℤ pos 1) (h.latest (put y (start k) t) (put_reaches (start k) t free) k (minute (Some s.0) ∷ []) (t ∷ []) low high is (put_same y (start k) (start k) t refl)) in
           absurd (omega (arith, ints))

@@ -1,5 +1,5 @@
 pub mod Serving
-pub mod Finishing
+pub mod Largest
 pub mod Moving
 pub mod One
 pub mod Nearest

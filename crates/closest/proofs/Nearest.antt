@@ -1,5 +1,5 @@
 -- The greatest starts in time, all moved by half of the largest distance of their finishes, are the closest.
-use Rattle.std.proofs.Common.{◌≡◌, ℕ, ◌+◌, ◌*◌, ◌≤◌, ◌⊎◌, [], ◌∷◌, length, ℤ, pos, ◌+ℤ◌, neg_ℤ, ◌≤ℤ◌, Some, None, Option, sym, refl, ap, ◌∙◌, subst, ap₂, subst₂, inl, inr, arith}
+use Rattle.std.proofs.Common.{◌≡◌, ℕ, ◌+◌, ◌*◌, ◌≤◌, ◌⊎◌, [], ◌∷◌, length, ℤ, pos, ◌+ℤ◌, neg_ℤ, ◌≤ℤ◌, true, is_some, Some, None, Option, sym, refl, ap, ◌∙◌, subst, ap₂, subst₂, inl, inr, arith}
 use Rattle.std.proofs.lemmas.Int.{ints}
 use Rattle.std.proofs.lemmas.Bool.{and_parts}
 use Rattle.rows.specs.Extremes.{Among}
@@ -7,18 +7,19 @@ use Rattle.rows.specs.Limits.{lag_limit, given_limit}
 use Rattle.rows.specs.MaxPlus.{added}
 use Rattle.rows.specs.Rows.{Row, NotBefore, Within, plus, minus}
 use Rattle.rows.proofs.Limits.{relations}
-use Rattle.rows.proofs.Sums.{length-plus}
 use Rattle.schedules.specs.Plans.{Lags, Totals}
 use Rattle.tables.specs.Tables.{start, finish}
 use Rattle.starts.specs.Starts.{Backward, Finished, Unbound, InTime}
-use Rattle.starts.proofs.Backwards.{added_some}
+use Rattle.starts.specs.Steps.{StartsInside, finish_of}
+use Rattle.starts.proofs.Folds.{finish_is}
+use Rattle.starts.proofs.Widths.{added_wide}
 use Rattle.rows.proofs.Options.{none_or_some, same_some}
 use Rattle.closest.specs.Closest.{minutes, Near, Reach, Closest}
 use Rattle.closest.specs.Served.{lag_into, lag_from, AllServed}
-use Rattle.closest.specs.Steps.{minute, finish_of, miss, largest, Moved, StartsInside, MovedFits}
-use Rattle.closest.proofs.Finishing.{latest_is, largest_bound, largest_reached}
+use Rattle.closest.specs.Steps.{minute, miss, largest, Moved, MovedFits}
+use Rattle.closest.proofs.Largest.{largest_bound, largest_reached}
 use Rattle.closest.proofs.One.{one_part, there, from_not_before, to_not_before, same_part, added_one}
-use Rattle.closest.proofs.Serving.{found_into, found_from}
+use Rattle.closest.proofs.Serving.{any_found, some_of}
 
 module _ (n : ℕ) (L : Lags) (d x : Totals)
     (wide_L : (v u : ℕ) (r : Row) → L v u ≡ Some r → length r ≡ 1) (wide_x : (v : ℕ) (r : Row) → x v ≡ Some r → length r ≡ 1)
@@ -37,15 +38,20 @@ module _ (n : ℕ) (L : Lags) (d x : Totals)
   abbrev ends : ℕ → ℤ
   ends j = minute (finish_of n L x (finish j))
 
+  lag_there : (j k : ℕ) → is_some (L (finish j) (start k)) ≡ true → (a : ℤ) × Lag j k a
+  lag_there j k h =
+      let t = some_of (L (finish j) (start k)) h in
+      (minute (Some t.0), t.1 ∙ ap Some (one_part t.0 (wide_L (finish j) (start k) t.0 t.1)))
+
   lag_into_there : (j : ℕ) → 1 ≤ j → j ≤ n → (k : ℕ) × (1 ≤ k) × (k ≤ n) × ((a : ℤ) × Lag j k a)
   lag_into_there j low high =
-      let t = found_into L (finish j) n (and_parts (lag_into L (finish j) n) (lag_from L (start j) n) (served j low high)).0 in
-      (t.0, t.1, t.2, (minute (Some t.3.0), t.3.1 ∙ ap Some (one_part t.3.0 (wide_L (finish j) (start t.0) t.3.0 t.3.1))))
+      let t = any_found (λ k. is_some (L (finish j) (start k))) n (and_parts (lag_into L (finish j) n) (lag_from L (start j) n) (served j low high)).0 in
+      (t.0, t.1, t.2, lag_there j t.0 t.3)
 
   lag_from_there : (k : ℕ) → 1 ≤ k → k ≤ n → (j : ℕ) × (1 ≤ j) × (j ≤ n) × ((a : ℤ) × Lag j k a)
   lag_from_there k low high =
-      let t = found_from L (start k) n (and_parts (lag_into L (finish k) n) (lag_from L (start k) n) (served k low high)).1 in
-      (t.0, t.1, t.2, (minute (Some t.3.0), t.3.1 ∙ ap Some (one_part t.3.0 (wide_L (finish t.0) (start k) t.3.0 t.3.1))))
+      let t = any_found (λ j. is_some (L (finish j) (start k))) n (and_parts (lag_into L (finish k) n) (lag_from L (start k) n) (served k low high)).1 in
+      (t.0, t.1, t.2, lag_there t.0 k t.3)
 
   -- every start is there
   pub begin_there : (k : ℕ) → 1 ≤ k → k ≤ n → x (start k) ≡ Some (begins k ∷ [])
@@ -81,25 +87,20 @@ module _ (n : ℕ) (L : Lags) (d x : Totals)
   sum_one : (j k : ℕ) (q : Row) → 1 ≤ k → k ≤ n → sum j k ≡ Some q → (a : ℤ) × Lag j k a × (q ≡ (begins k +ℤ a) ∷ [])
   sum_one j k q k1 kn e = added_one (x (start k)) (L (finish j) (start k)) (begins k) q (begin_there k k1 kn) (λ b h. wide_L (finish j) (start k) b h) e
 
-  sum_wide : (j k : ℕ) (q : Row) → sum j k ≡ Some q → length q ≡ 1
-  sum_wide j k q e =
-      let s = added_some (x (start k)) (L (finish j) (start k)) q e in
-      sym (ap length s.4) ∙ length-plus s.0 s.1 1 (wide_x (start k) s.0 s.2) (wide_L (finish j) (start k) s.1 s.3)
-
-  finish_is : (j : ℕ) → Finished n L x (finish j) (finish_of n L x (finish j))
-  finish_is j = latest_is 1 (sum j) (sum_wide j) n
+  ends_at : (j : ℕ) → Finished n L x (finish j) (finish_of n L x (finish j))
+  ends_at j = finish_is 1 n L x wide_L wide_x (finish j)
 
   pub end_there : (j : ℕ) → 1 ≤ j → j ≤ n → finish_of n L x (finish j) ≡ Some (ends j ∷ [])
-  end_there j low high = go (finish_of n L x (finish j)) refl (finish_is j)
+  end_there j low high = go (finish_of n L x (finish j)) refl (ends_at j)
     where
       go : (o : Option Row) → finish_of n L x (finish j) ≡ o → Finished n L x (finish j) o → finish_of n L x (finish j) ≡ Some (ends j ∷ [])
       go None e h =
           let t = lag_into_there j low high in
           absurd (h ((begins t.0 +ℤ t.3.0) ∷ []) (t.0, t.1, t.2, ap₂ added (begin_there t.0 t.1 t.2) t.3.1))
-      go (Some r) e h = there (finish_of n L x (finish j)) r e (sum_wide j h.0.0 r h.0.3)
+      go (Some r) e h = there (finish_of n L x (finish j)) r e (added_wide 1 (x (start h.0.0)) (L (finish j) (start h.0.0)) (wide_x (start h.0.0)) (wide_L (finish j) (start h.0.0)) r h.0.3)
 
   finished : (j : ℕ) → 1 ≤ j → j ≤ n → Finished n L x (finish j) (Some (ends j ∷ []))
-  finished j low high = subst (Finished n L x (finish j)) (end_there j low high) (finish_is j)
+  finished j low high = subst (Finished n L x (finish j)) (end_there j low high) (ends_at j)
 
   end_bound : (j k : ℕ) (a : ℤ) → 1 ≤ j → j ≤ n → 1 ≤ k → k ≤ n → Lag j k a → (begins k +ℤ a) ≤ℤ ends j
   end_bound j k a j1 jn k1 kn e =

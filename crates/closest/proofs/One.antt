@@ -3,7 +3,7 @@ use Rattle.std.proofs.Common.{◌≡◌, [], ◌∷◌, length, ℤ, ◌+ℤ◌,
 use Rattle.std.proofs.lemmas.Int.{ints, by_lt_z}
 use Rattle.rows.specs.MaxPlus.{added}
 use Rattle.rows.specs.Rows.{Row, NotBefore, plus}
-use Rattle.starts.proofs.Backwards.{added_some}
+use Rattle.starts.proofs.Widths.{added_some}
 use Rattle.rows.proofs.Options.{none_or_some, same_some}
 use Rattle.closest.specs.Steps.{minute}
 

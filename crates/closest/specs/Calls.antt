@@ -1,22 +1,11 @@
 -- How closest ends, for every input.
 use Rattle.std.specs.Prelude.{◌≡◌, ℕ, min, List, [], ◌∷◌, ◌++◌, length, drop, Option, Result}
-use Rattle.rows.specs.Limits.{lag_limit, total_limit}
 use Rattle.rows.specs.Rows.{Row}
-use Rattle.marks.specs.Meaning.{clamped}
-use Rattle.minutes.specs.declared.Minutes.{Minutes}
-use Rattle.minutes.specs.declared.MinutesLag.{MinutesLag}
 use Rattle.tables.specs.Checks.{check, Ended, row_checks, totals_missed}
 use Rattle.tables.specs.Tables.{events, lags, times}
 use Rattle.tables.specs.declared.fault.PlanFault.{PlanFault}
 use Rattle.closest.specs.Closest.{Closest}
 use Rattle.closest.specs.Served.{unserved}
-
--- what minutes mean, as the kind itself has it
-abbrev pub minutes_row : Minutes → Row
-minutes_row total = clamped total_limit total.minute ∷ []
-
-abbrev pub minutes_amount : MinutesLag → Row
-minutes_amount lag = clamped lag_limit lag.minute ∷ []
 
 -- closest: reads every finish
 abbrev pub ClosestEnds : {A T : Type 0} → (A → Row) → (T → Row) → ℕ → List (Option A) → List (Option T) → List (Option T) → List (Option T) → Result ℕ PlanFault → Type 0

@@ -1,12 +1,11 @@
 -- The steps to the closest starts: finishes, their largest distance from the due times, and starts all moved alike.
-use Rattle.std.specs.Prelude.{◌≡◌, ℕ, zero, suc, ◌+◌, ◌≤◌, max, [], ◌∷◌, ℤ, pos, ◌+ℤ◌, ◌-ℤ◌, Some, None, Option, unsigned_abs}
-use Rattle.rows.specs.Limits.{lag_limit, total_limit, given_limit}
-use Rattle.rows.specs.MaxPlus.{later, added}
+use Rattle.std.specs.Prelude.{◌≡◌, ℕ, zero, suc, ◌≤◌, max, [], ◌∷◌, ℤ, pos, ◌+ℤ◌, ◌-ℤ◌, Some, None, Option, unsigned_abs}
+use Rattle.rows.specs.Limits.{total_limit}
 use Rattle.rows.specs.Rows.{Row, Within}
 use Rattle.schedules.specs.Plans.{Lags, Totals}
-use Rattle.tables.specs.Checks.{AllGiven}
 use Rattle.tables.specs.Tables.{start, finish}
 use Rattle.starts.specs.Starts.{Backward}
+use Rattle.starts.specs.Steps.{finish_of}
 use Rattle.closest.specs.Served.{AllServed}
 
 -- the first part of a row, and 0 where there is none
@@ -14,15 +13,6 @@ abbrev pub minute : Option Row → ℤ
 minute None = pos 0
 minute (Some []) = pos 0
 minute (Some (z ∷ zs)) = z
-
--- the latest of f 1, f 2, .., f n
-abbrev pub latest : ℕ → (ℕ → Option Row) → Option Row
-latest zero f = None
-latest (suc k) f = later (latest k f) (f (suc k))
-
--- the finish of v from the starts x
-abbrev pub finish_of : ℕ → Lags → Totals → ℕ → Option Row
-finish_of n L x v = latest n (λ k. added (x (start k)) (L v (start k)))
 
 -- how far the finish of stage j from the starts x is from its due time in d
 abbrev pub miss : ℕ → Lags → Totals → Totals → ℕ → ℕ
@@ -33,9 +23,9 @@ abbrev pub largest : ℕ → (ℕ → ℕ) → ℕ
 largest zero f = 0
 largest (suc k) f = max (largest k f) (f (suc k))
 
--- no start is further out than a given total and a lag
-abbrev pub StartsInside : ℕ → Totals → Type 0
-StartsInside n x = (k : ℕ) (r : Row) → 1 ≤ k → k ≤ n → x (start k) ≡ Some r → Within (given_limit + lag_limit) r
+-- the start of stage k in x, moved by e
+abbrev pub moved : Totals → ℕ → ℕ → Option Row
+moved x e k = Some ((minute (x (start k)) +ℤ pos e) ∷ [])
 
 -- every start of x moved by e fits a total
 abbrev pub MovedFits : ℕ → Totals → ℕ → Type 0
@@ -44,11 +34,10 @@ MovedFits n x e = (k : ℕ) → 1 ≤ k → k ≤ n → Within total_limit ((min
 -- y are the starts of x, all moved by e
 pub record Moved (n : ℕ) (x : Totals) (e : ℕ) (y : Totals) : Type 0 where
   pub opening : y 0 ≡ None
-  pub starts : (k : ℕ) → 1 ≤ k → k ≤ n → y (start k) ≡ Some ((minute (x (start k)) +ℤ pos e) ∷ [])
+  pub starts : (k : ℕ) → 1 ≤ k → k ≤ n → y (start k) ≡ moved x e k
   pub finishes : (k : ℕ) → 1 ≤ k → k ≤ n → y (finish k) ≡ None
 
--- the due times d are given, every finish and start is served, and x are the greatest starts in time
+-- every finish and start is served, and x are the greatest starts in time
 pub record Ready (n : ℕ) (L : Lags) (d x : Totals) : Type 0 where
-  pub given : AllGiven d 2 2 n
   pub served : AllServed n L
   pub greatest : Backward 1 n L d x

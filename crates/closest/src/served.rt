@@ -1,56 +1,51 @@
 // 13: whether every finish and every start has a start-to-finish lag.
-ghost use Rattle.std.specs.Prelude.{◌≡◌, ◌+◌, ◌<◌, ◌≤◌, [], ◌∷◌};
+ghost use Rattle.std.specs.Prelude.{◌≡◌, ◌+◌, ◌<◌, not, [], ◌∷◌};
 ghost use Rattle.tables.specs.Checks.{Ended, check};
-ghost use Rattle.tables.specs.Tables.{events, lags};
+ghost use Rattle.tables.specs.Tables.{lags};
 ghost use Rattle.closest.specs.Served.{lag_into, lag_from, served, unserved, AllServed};
 
 use marks::kind::Mark;
 use tables::fault::PlanFault;
-use tables::layout::lag_at;
+use tables::layout::Table;
 
 // Whether a lag stands to an event from any start.
-fn has_lag_into<K: Mark>(stages: usize, table: &[Option<K::Lag>], to: usize) -> bool
-    requires { (stages ≤ 31) × (to < events stages) }
-    ensures { result ≡ lag_into (lags K.Mark.amount (events stages) table.now) to stages }
+fn has_lag_into<K: Mark>(table: &Table<'_, K>, to: usize) -> bool
+    requires { to < table.now.count }
+    ensures { result ≡ lag_into (lags K.Mark.amount table.now.count table.now.lags.now) to table.now.stages }
 {
-    let mut found = false;
-    for k in 0..stages {
-        found |= lag_at::<K>(2 * stages + 1, table, to, 2 * k + 1).is_some();
-    }
-    found
+    (0..table.stages).any(|k| table.lag(to, 2 * k + 1).is_some())
 }
 
-// Whether a lag stands from an event to any finish.
-fn has_lag_from<K: Mark>(stages: usize, table: &[Option<K::Lag>], from: usize) -> bool
-    requires { (stages ≤ 31) × (from < events stages) }
-    ensures { result ≡ lag_from (lags K.Mark.amount (events stages) table.now) from stages }
+// Whether a lag stands from an event to any finish. Its twin stays: a line each, where one function of both would take a closure for the
+// pair.
+fn has_lag_from<K: Mark>(table: &Table<'_, K>, from: usize) -> bool
+    requires { from < table.now.count }
+    ensures { result ≡ lag_from (lags K.Mark.amount table.now.count table.now.lags.now) from table.now.stages }
 {
-    let mut found = false;
-    for k in 0..stages {
-        found |= lag_at::<K>(2 * stages + 1, table, 2 * k + 2, from).is_some();
-    }
-    found
+    (0..table.stages).any(|k| table.lag(2 * k + 2, from).is_some())
 }
 
 // Whether stage k + 1 has a start-to-finish lag into its finish and one from its start.
-fn is_served<K: Mark>(stages: usize, table: &[Option<K::Lag>], k: usize) -> bool
-    requires { (stages ≤ 31) × (k < stages) }
-    ensures { result ≡ served stages (lags K.Mark.amount (events stages) table.now) (k + 1) }
+fn is_served<K: Mark>(table: &Table<'_, K>, k: usize) -> bool
+    requires { k < table.now.stages }
+    ensures { result ≡ served table.now.stages (lags K.Mark.amount table.now.count table.now.lags.now) (k + 1) }
 {
-    has_lag_into::<K>(stages, table, 2 * k + 2) & has_lag_from::<K>(stages, table, 2 * k + 1)
+    has_lag_into(table, 2 * k + 2) && has_lag_from(table, 2 * k + 1)
 }
 
-pub(crate) fn check_served<K: Mark>(
-    stages: usize,
-    table: &[Option<K::Lag>],
-) -> Result<(), PlanFault>
-    requires { stages ≤ 31 }
-    ensures { Ended (check 13 (unserved stages (lags K.Mark.amount (events stages) table.now)) ∷ []) (λ _. AllServed stages (lags K.Mark.amount (events stages) table.now)) (Unit {0}) result }
+// Whether every stage is served.
+fn are_all_served<K: Mark>(table: &Table<'_, K>) -> bool
+    ensures { result ≡ not (unserved table.now.stages (lags K.Mark.amount table.now.count table.now.lags.now)) }
 {
-    for k in 0..stages {
-        if !is_served::<K>(stages, table, k) {
-            return Err(PlanFault::Unserved);
-        }
+    (0..table.stages).all(|k| is_served(table, k))
+}
+
+pub(crate) fn check_served<K: Mark>(table: &Table<'_, K>) -> Result<(), PlanFault>
+    ensures { Ended (check 13 (unserved table.now.stages (lags K.Mark.amount table.now.count table.now.lags.now)) ∷ []) (λ _. AllServed table.now.stages (lags K.Mark.amount table.now.count table.now.lags.now)) (Unit {0}) result }
+{
+    if are_all_served(table) {
+        Ok(())
+    } else {
+        Err(PlanFault::Unserved)
     }
-    Ok(())
 }

@@ -1,1 +1,1 @@
-pub mod Clearing
+pub mod Voiding

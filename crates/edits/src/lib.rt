@@ -1,9 +1,9 @@
 // The edits of a table that need no solver: open, drop and void.
 #![tactic(auto)]
 
-ghost use Rattle.std.specs.Prelude.{◌≡◌, ◌*◌, ◌<◌, ◌≤◌, length, None};
+ghost use Rattle.std.specs.Prelude.{◌⊎◌, Decides};
 ghost use Rattle.edits.specs.Calls.{OpenEnds, DropEnds, VoidEnds};
-ghost use Rattle.tables.specs.Tables.{Cleared};
+ghost use Rattle.tables.specs.Tables.{OfStage};
 
 use checks::{check_event, check_stage, check_table};
 use marks::kind::Mark;
@@ -14,10 +14,8 @@ use tables::layout::put_lag;
 pub fn open<K: Mark>(stages: usize, table: &mut [Option<K::Lag>]) -> Result<(), PlanFault>
     ensures { OpenEnds stages table.old table.new result }
 {
-    let _ = check_table(stages, table.len())?;
-    for at in 0..table.len() {
-        table[at] = None;
-    }
+    check_table(stages, table.len())?;
+    table.fill(None);
     Ok(())
 }
 
@@ -36,18 +34,16 @@ pub fn drop<K: Mark>(
     Ok(())
 }
 
-// Empties every place to or from an event, of so many events.
-fn clear_event<K: Mark>(count: usize, table: &mut [Option<K::Lag>], event: usize)
-    requires { (count ≤ 63) × ((event < count) × (length table.old ≡ count * count)) }
-    ensures { Cleared count (λ v. v ≡ event) table.old table.new }
+// Whether one of two events is the start or the finish of a stage: half of an event, rounded up, is its stage.
+fn touches(stage: usize, to: usize, from: usize) -> bool
+    ensures { Decides result (OfStage stage to ⊎ OfStage stage from) }
 {
-    for other in 0..count {
-        put_lag::<K>(count, table, event, other, None);
-        put_lag::<K>(count, table, other, event, None);
-    }
+    to.div_ceil(2) == stage || from.div_ceil(2) == stage
 }
 
-// Empties every place to or from the two events of a stage.
+// Empties every place to or from the two events of a stage. By the place, which tells the pair: of rows lent one by one the elements would
+// be unknown afterwards.
+#[tactic(auto, using(crate::proofs::Voiding::voided_all))]
 pub fn void<K: Mark>(
     stages: usize,
     table: &mut [Option<K::Lag>],
@@ -57,7 +53,10 @@ pub fn void<K: Mark>(
 {
     let count = check_table(stages, table.len())?;
     check_stage(stages, stage)?;
-    clear_event::<K>(count, table, 2 * stage - 1);
-    clear_event::<K>(count, table, 2 * stage);
+    for (at, lag) in table.iter_mut().enumerate() {
+        if touches(stage, at / count, at % count) {
+            *lag = None;
+        }
+    }
     Ok(())
 }

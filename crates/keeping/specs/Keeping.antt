@@ -6,7 +6,7 @@ use Rattle.schedules.specs.Plans.{Lags, Totals}
 use Rattle.tables.specs.Tables.{place}
 
 -- the times x break the lag to v from u: v comes before u plus the lag
-abbrev pub Breaks : Lags → Totals → ℕ → ℕ → Type 0
+unfoldable pub Breaks : Lags → Totals → ℕ → ℕ → Type 0
 Breaks L x v u = (t : Row) × (s : Row) × (x v ≡ Some t) × (added (x u) (L v u) ≡ Some s) × Before t s
 
 -- the first broken lag in the order of the table, or none

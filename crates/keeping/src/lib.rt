@@ -1,61 +1,53 @@
 // check: whether a row of times keeps every lag.
 #![tactic(auto)]
 
-ghost use Rattle.std.specs.Prelude.{◌<◌, ◌≤◌, Decides};
-ghost use Rattle.tables.specs.Checks.{AllGiven, Given};
+ghost use Rattle.std.specs.Prelude.{◌≡◌, ◌<◌, Decides};
 ghost use Rattle.tables.specs.Tables.{lags, times};
 ghost use Rattle.keeping.specs.Calls.{CheckEnds};
 ghost use Rattle.keeping.specs.Keeping.{Breaks, FirstBroken};
 
-use checks::{check_rows, check_totals};
+use checks::{read_rows, read_totals};
 use marks::kind::Mark;
-use starts::arrivals::arrival;
-use std::cmp::Ordering;
 use tables::fault::PlanFault;
-use tables::layout::time_at;
+use tables::given::Given;
+use tables::layout::Table;
+use totals::choice::sum_of;
 
 // Whether the times break the lag to an event from another.
 fn breaks<K: Mark>(
-    count: usize,
-    table: &[Option<K::Lag>],
-    totals: &[Option<K>],
+    table: &Table<'_, K>,
+    totals: &Given<'_, K, 0, 1>,
     to: usize,
     from: usize,
 ) -> bool
-    requires { (count ≤ 63) × ((to < count) × ((from < count) × (Given (times K.Mark.row totals.now from)))) }
-    ensures { Decides result (Breaks (lags K.Mark.amount count table.now) (times K.Mark.row totals.now) to from) }
+    requires { (to < table.now.count) × (from < table.now.count) × (totals.now.count ≡ table.now.count) }
+    ensures { Decides result (Breaks (lags K.Mark.amount table.now.count table.now.lags.now) (times K.Mark.row totals.now.totals.now) to from) }
 {
-    let Some(time) = time_at(totals, to) else {
+    let Some(least) = sum_of(Some(totals.nth(from)), table.lag(to, from)) else {
         return false;
     };
-    let Some(least) = arrival::<K>(count, table, totals, to, from) else {
-        return false;
-    };
-    match time.order(least) {
-        Ordering::Less => true,
-        _ => false,
-    }
+    totals.nth(to).order(least).is_lt()
 }
 
 // The first broken lag in the order of the table.
 fn first_broken<K: Mark>(
-    count: usize,
-    table: &[Option<K::Lag>],
-    totals: &[Option<K>],
+    table: &Table<'_, K>,
+    totals: &Given<'_, K, 0, 1>,
 ) -> Option<(usize, usize)>
-    requires { (count ≤ 63) × (AllGiven (times K.Mark.row totals.now) 0 1 count) }
-    ensures { FirstBroken count (lags K.Mark.amount count table.now) (times K.Mark.row totals.now) result }
+    requires { totals.now.count ≡ table.now.count }
+    ensures { FirstBroken table.now.count (lags K.Mark.amount table.now.count table.now.lags.now) (times K.Mark.row totals.now.totals.now) result }
 {
-    let mut broken = None;
-    'table: for to in 0..count {
-        for from in 0..count {
-            if breaks::<K>(count, table, totals, to, from) {
-                broken = Some((to, from));
-                break 'table;
+    // by events and not by places, since the pair is the answer
+    'table: {
+        for to in 0..table.count {
+            for from in 0..table.count {
+                if breaks(table, totals, to, from) {
+                    break 'table Some((to, from));
+                }
             }
         }
+        None
     }
-    broken
 }
 
 // Answers nothing where the times keep every lag, else (to, from) of the first lag in the order of the table that they break.
@@ -66,7 +58,7 @@ pub fn check<K: Mark>(
 ) -> Result<Option<(usize, usize)>, PlanFault>
     ensures { CheckEnds K.Mark.amount K.Mark.row stages table.now totals.now result }
 {
-    let count = check_rows(stages, table.len(), totals.len())?;
-    check_totals(totals, 0, 1, count)?;
-    Ok(first_broken::<K>(count, table, totals))
+    let table = read_rows(stages, table, totals.len())?;
+    let totals = read_totals(totals, table.count)?;
+    Ok(first_broken(&table, &totals))
 }

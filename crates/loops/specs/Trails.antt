@@ -1,15 +1,15 @@
 -- The walk back over the events that totals came from, and the loop that it closes.
-use Rattle.std.specs.Prelude.{◌≡◌, ℕ, zero, suc, ◌-◌, ◌*◌, ◌<◌, ◌≤◌, List, ◌++◌, take, drop, Some, None, Option, ◌≢◌, slice_index}
-use Rattle.schedules.specs.Walks.{Apart, backs, kept_at, walk}
+use Rattle.std.specs.Prelude.{◌≡◌, ℕ, zero, suc, ◌-◌, ◌<◌, ◌≤◌, List, [], ◌++◌, take, drop, length, reverse, Some, None, Option, ◌≢◌, slice_index, slice_index_or}
+use Rattle.schedules.specs.Walks.{Apart, backs, walk}
 
--- The events that totals came from are kept round by round, 63 places for each.
-abbrev pub from_in : List ℕ → ℕ → ℕ → ℕ
-from_in sources zero v = 0
-from_in sources (suc k) v = kept_at sources (k * 63) v
+-- The events that totals came from are kept round by round, a row for each.
+abbrev pub from_in : List (List ℕ) → ℕ → ℕ → ℕ
+from_in rounds zero v = 0
+from_in rounds (suc k) v = slice_index (slice_index_or rounds k []) v
 
 -- The walk back from v.
-abbrev pub back : ℕ → List ℕ → ℕ → ℕ → ℕ
-back m sources v = walk (from_in sources) m v
+abbrev pub back : ℕ → List (List ℕ) → ℕ → ℕ → ℕ
+back m rounds v = walk (from_in rounds) m v
 
 -- It leads over events only.
 abbrev pub Leads : ℕ → (ℕ → ℕ) → Type 0
@@ -19,10 +19,10 @@ Leads m p = (i : ℕ) → i ≤ m → p i < m
 abbrev pub on : List ℕ → ℕ → ℕ
 on path i = slice_index path i
 
--- A place of the event among the first n, or none.
-abbrev pub PlaceOf : List ℕ → ℕ → ℕ → Option ℕ → Type 0
-PlaceOf path n e None = (i : ℕ) → i < n → on path i ≢ e
-PlaceOf path n e (Some c) = (c < n) × (on path c ≡ e)
+-- A place of the event, or none.
+abbrev pub PlaceOf : List ℕ → ℕ → Option ℕ → Type 0
+PlaceOf es e None = (i : ℕ) → i < length es → on es i ≢ e
+PlaceOf es e (Some c) = (c < length es) × (on es c ≡ e)
 
 -- p d is p c, and those before p d are all different.
 pub record MetTwice (m : ℕ) (p : ℕ → ℕ) (c d : ℕ) : Type 0 where
@@ -35,16 +35,20 @@ pub record MetTwice (m : ℕ) (p : ℕ → ℕ) (c d : ℕ) : Type 0 where
 abbrev pub Holds : List ℕ → (ℕ → ℕ) → ℕ → Type 0
 Holds path p d = (i : ℕ) → i ≤ d → on path i ≡ p i
 
--- Of the places after c and before n, and of place d, the one with the lowest event.
-pub record LowUnder (path : List ℕ) (c d n low : ℕ) : Type 0 where
-  pub after : c < low
-  pub within : low ≤ d
-  pub least : (i : ℕ) → c < i → i < n → on path low ≤ on path i
-  pub least_last : on path low ≤ on path d
+-- The place has the lowest of the events.
+abbrev pub LowestAt : List ℕ → ℕ → Type 0
+LowestAt es lo = (lo < length es) × ((j : ℕ) → j < length es → slice_index es lo ≤ slice_index es j)
 
 -- a list that begins at its place lo, and goes on at its start
 abbrev pub rotated : ℕ → List ℕ → List ℕ
 rotated lo es = drop lo es ++ take lo es
+
+-- The first places of the row have the events backwards, rotated so that their lowest is first, and the others are as they were.
+pub record CircledIn (es row after : List ℕ) : Type 0 where
+  pub low : ℕ
+  pub lowest : 0 < length es → LowestAt (reverse es) low
+  pub events : take (length es) after ≡ rotated low (reverse es)
+  pub rest : drop (length es) after ≡ drop (length es) row
 
 -- The first places of the row have the events p d, .., p (c + 1), rotated so that p low is first, and the others are as they were.
 pub record RotatedIn (p : ℕ → ℕ) (c d low : ℕ) (row after : List ℕ) : Type 0 where

@@ -1,78 +1,80 @@
 // The walk back from an event that the last round changed, and the loop that it closes.
 #![tactic(auto)]
 
-ghost use Rattle.std.specs.Prelude.{◌≡◌, ◌<◌, ◌≤◌, length};
-ghost use Rattle.loops.specs.Trails.{back, Holds, Leads, LowUnder, MetTwice, on, PlaceOf, RotatedIn, Written};
+ghost use Rattle.std.specs.Prelude.{◌≡◌, ◌<◌, ◌≤◌, length, MatchOption};
+ghost use Rattle.loops.specs.Trails.{back, CircledIn, Holds, Leads, LowestAt, MetTwice, PlaceOf, Written};
 
 use rows::MOST_EVENTS;
 
-// A place, of the first so many, that has the event.
-fn place_of(path: &[usize], count: usize, event: usize) -> Option<usize>
-    requires { count ≤ length path.now }
-    ensures { PlaceOf path.now count event result }
+// The first place that has the event; apart, since the walk back was proved by this promise and not by the library's.
+fn place_of(path: &[usize], event: usize) -> Option<usize>
+    ensures { PlaceOf path.now event result }
 {
-    for at in 0..count {
-        if path[at] == event {
-            return Some(at);
-        }
-    }
-    None
+    path.iter().position(|e| *e == event)
 }
 
 // Walks back along the events that totals came from, until one is met again; its two places on the path.
-fn walk_back(count: usize, sources: &[u8], event: usize, path: &mut [usize]) -> (usize, usize)
-    requires leads { Leads count (back count sources.now event) }
-    requires places { (count ≤ 63) × ((length sources.now ≡ 3969) × (length path.old ≡ 64)) }
-    ensures met { MetTwice count (back count sources.now event) result.0 result.1 }
-    ensures holds { Holds path.new (back count sources.now event) result.1 }
+fn walk_back(
+    count: usize,
+    rounds: &[[u8; MOST_EVENTS]; MOST_EVENTS],
+    event: usize,
+    path: &mut [usize; MOST_EVENTS + 1],
+) -> (usize, usize)
+    requires leads { Leads count (back count rounds.now event) }
+    requires places { count ≤ 63 }
+    ensures met { MetTwice count (back count rounds.now event) result.0 result.1 }
+    ensures holds { Holds path.new (back count rounds.now event) result.1 }
 {
     path[0] = event;
-    let mut steps = 0;
-    loop {
-        let from = sources[(count - 1 - steps) * MOST_EVENTS + path[steps]] as usize;
-        steps += 1;
-        path[steps] = from;
-        if let Some(first) = place_of(path, steps, from) {
-            return (first, steps);
+    // by the place, since each step reads the one before
+    for last in 1..=count {
+        let from = usize::from(rounds[count - last][path[last - 1]]);
+        path[last] = from;
+        if let Some(first) = place_of(&path[..last], from) {
+            return (first, last);
         }
     }
+    unreachable!()
 }
 
-// The place of the lowest event after place `first`, up to `last`.
-fn lowest_place(path: &[usize], first: usize, last: usize) -> usize
-    requires { (first < last) × (last < length path.now) }
-    ensures { LowUnder path.now first last last result }
+// The place of the lowest of the events.
+fn lowest_place(events: &[usize]) -> Option<usize>
+    ensures { MatchOption result (length events.now ≡ 0) (LowestAt events.now) }
 {
-    let mut lowest = last;
-    for at in first + 1..last {
-        if path[at] < path[lowest] {
-            lowest = at;
-        }
-    }
-    lowest
+    events
+        .iter()
+        .enumerate()
+        .min_by_key(|(_, event)| **event)
+        .map(|(place, _)| place)
 }
 
-// The events after place `first`, up to `last`, backwards and in a circle from `lowest` on.
-fn write_rotated(path: &[usize], first: usize, last: usize, lowest: usize, row: &mut [usize])
-    requires { (first < lowest) × ((lowest ≤ last) × ((last < length path.now) × ((last ≤ 63) × (last ≤ length row.old)))) }
-    ensures { RotatedIn (on path.now) first last lowest row.old row.new }
+// Writes the events backwards, in a circle from the lowest on.
+fn write_circle(events: &[usize], row: &mut [usize])
+    requires { length events.now ≤ length row.old }
+    ensures { CircledIn events.now row.old row.new }
 {
-    let count = last - first;
-    for place in 0..count {
-        let turn = if place < lowest - first { 0 } else { count };
-        row[place] = path[lowest + turn - place];
+    let circle = &mut row[..events.len()];
+    circle.copy_from_slice(events);
+    circle.reverse();
+    if let Some(lowest) = lowest_place(circle) {
+        circle.rotate_left(lowest);
     }
 }
 
 // Writes the loop that the walk back from an event closes, its lowest event first; its length.
-pub fn write_loop(count: usize, sources: &[u8], event: usize, row: &mut [usize]) -> usize
-    requires leads { Leads count (back count sources.now event) }
-    requires places { (count ≤ 63) × ((length sources.now ≡ 3969) × (count ≤ length row.old)) }
-    ensures { Written count (back count sources.now event) row.old row.new result }
+pub fn write_loop(
+    count: usize,
+    rounds: &[[u8; MOST_EVENTS]; MOST_EVENTS],
+    event: usize,
+    row: &mut [usize],
+) -> usize
+    requires leads { Leads count (back count rounds.now event) }
+    requires places { (count ≤ 63) × (count ≤ length row.old) }
+    ensures { Written count (back count rounds.now event) row.old row.new result }
 {
+    // a buffer of fixed size, since there is no heap
     let mut path = [0; MOST_EVENTS + 1];
-    let (first, last) = walk_back(count, sources, event, &mut path);
-    let lowest = lowest_place(&path, first, last);
-    write_rotated(&path, first, last, lowest, row);
+    let (first, last) = walk_back(count, rounds, event, &mut path);
+    write_circle(&path[first + 1..=last], row);
     last - first
 }

@@ -1,37 +1,25 @@
 // The kinds at the numbers where their answers change.
 use marks::fault::{Layer, MarkFault};
 use marks::kind::Mark;
-use minutes::{Minutes, MinutesLag};
-use stamps::{Stamp, StampLag};
+use minutes::Minutes;
+use stamps::Stamp;
 use std::cmp::Ordering;
 use std::test::Fail;
 use turned::Turned;
 use twice::{add_turned_twice, order_turned_twice, take_turned_twice};
 
-fn minutes(minute: i64) -> Result<Minutes, Fail> {
-    Ok(Minutes::make_total(&[minute]).ok_or("no total")?)
+fn total_of<K: Mark>(parts: &[i64]) -> Result<K, Fail> {
+    Ok(K::make_total(parts).ok_or("no total")?)
 }
 
-fn minutes_lag(minute: i64) -> Result<MinutesLag, Fail> {
-    Ok(Minutes::make_lag(&[minute])?)
-}
-
-fn stamp(minute: i64, turn: i64) -> Result<Stamp, Fail> {
-    Ok(Stamp::make_total(&[minute, turn]).ok_or("no total")?)
-}
-
-fn stamp_lag(minute: i64, turn: i64) -> Result<StampLag, Fail> {
-    Ok(Stamp::make_lag(&[minute, turn])?)
-}
-
-fn turned_total(minute: i64) -> Result<Turned<Minutes>, Fail> {
-    Ok(Turned::<Minutes>::make_total(&[minute]).ok_or("no total")?)
+fn lag_of<K: Mark>(parts: &[i64]) -> Result<K::Lag, Fail> {
+    Ok(K::make_lag(parts)?)
 }
 
 #[test]
 fn lags_end_at_their_limit(rt: HostRuntime) -> Result<(), Fail> {
     assert_eq!(rt;
-        Minutes::lag_part(minutes_lag(1_000_000)?, 0),
+        Minutes::lag_part(lag_of::<Minutes>(&[1_000_000])?, 0),
         Some(1_000_000)
     );
     assert!(rt; Minutes::make_lag(&[1_000_001]).is_err());
@@ -51,55 +39,71 @@ fn counts_of_parts_are_exact(rt: HostRuntime) {
 
 #[test]
 fn totals_end_at_their_limit(rt: HostRuntime) -> Result<(), Fail> {
-    assert_eq!(rt; minutes(4_000_000_000)?.part(0), Some(4_000_000_000));
+    assert_eq!(rt;
+        total_of::<Minutes>(&[4_000_000_000])?.part(0),
+        Some(4_000_000_000)
+    );
     assert!(rt; Minutes::make_total(&[4_000_000_001]).is_none());
     assert!(rt; Stamp::make_total(&[0, -4_000_000_001]).is_none());
-    assert_eq!(rt; turned_total(-4_000_000_000)?.part(0), Some(-4_000_000_000));
+    assert_eq!(rt;
+        total_of::<Turned<Minutes>>(&[-4_000_000_000])?.part(0),
+        Some(-4_000_000_000)
+    );
     assert!(rt; Turned::<Minutes>::make_total(&[i64::MIN]).is_none());
     Ok(())
 }
 
 #[test]
 fn sums_past_the_limit_are_nothing(rt: HostRuntime) -> Result<(), Fail> {
-    let most = minutes(4_000_000_000)?;
-    assert!(rt; most.add(minutes_lag(1)?).is_none());
-    assert!(rt; most.take(minutes_lag(-1)?).is_none());
-    let less = most.take(minutes_lag(1)?).ok_or("no total")?;
+    let most = total_of::<Minutes>(&[4_000_000_000])?;
+    assert!(rt; most.add(lag_of::<Minutes>(&[1])?).is_none());
+    assert!(rt; most.take(lag_of::<Minutes>(&[-1])?).is_none());
+    let less = most.take(lag_of::<Minutes>(&[1])?).ok_or("no total")?;
     assert_eq!(rt; less.part(0), Some(3_999_999_999));
-    assert!(rt; stamp(0, 4_000_000_000)?.add(stamp_lag(0, 1)?).is_none());
+    assert!(rt;
+        total_of::<Stamp>(&[0, 4_000_000_000])?
+            .add(lag_of::<Stamp>(&[0, 1])?)
+            .is_none()
+    );
     Ok(())
 }
 
 #[test]
 fn stamps_are_ordered_by_the_minute_first(rt: HostRuntime) -> Result<(), Fail> {
     assert_eq!(rt;
-        stamp(1, -1_000_000)?.order(stamp(0, 0)?),
+        total_of::<Stamp>(&[1, -1_000_000])?.order(total_of::<Stamp>(&[0, 0])?),
         Ordering::Greater
     );
-    assert_eq!(rt; stamp(0, 1)?.order(stamp(0, 2)?), Ordering::Less);
-    assert_eq!(rt; stamp(7, 7)?.order(stamp(7, 7)?), Ordering::Equal);
+    assert_eq!(rt;
+        total_of::<Stamp>(&[0, 1])?.order(total_of::<Stamp>(&[0, 2])?),
+        Ordering::Less
+    );
+    assert_eq!(rt;
+        total_of::<Stamp>(&[7, 7])?.order(total_of::<Stamp>(&[7, 7])?),
+        Ordering::Equal
+    );
     Ok(())
 }
 
 #[test]
 fn parts_are_counted_from_zero(rt: HostRuntime) -> Result<(), Fail> {
-    let total = stamp(5, 6)?;
+    let total = total_of::<Stamp>(&[5, 6])?;
     assert_eq!(rt; total.part(0), Some(5));
     assert_eq!(rt; total.part(1), Some(6));
     assert_eq!(rt; total.part(2), None);
     assert_eq!(rt; Stamp::zero().part(1), Some(0));
-    assert_eq!(rt; minutes(5)?.part(1), None);
+    assert_eq!(rt; total_of::<Minutes>(&[5])?.part(1), None);
     assert_eq!(rt; Turned::<Stamp>::part_count(), 2);
     Ok(())
 }
 
 #[test]
 fn turned_totals_add_and_order_by_their_meaning(rt: HostRuntime) -> Result<(), Fail> {
-    let total = turned_total(5)?;
+    let total = total_of::<Turned<Minutes>>(&[5])?;
     assert_eq!(rt; total.inner.part(0), Some(-5));
-    let sum = total.add(minutes_lag(2)?).ok_or("no total")?;
+    let sum = total.add(lag_of::<Minutes>(&[2])?).ok_or("no total")?;
     assert_eq!(rt; sum.part(0), Some(7));
-    let rest = total.take(minutes_lag(2)?).ok_or("no total")?;
+    let rest = total.take(lag_of::<Minutes>(&[2])?).ok_or("no total")?;
     assert_eq!(rt; rest.part(0), Some(3));
     assert_eq!(rt; total.order(sum), Ordering::Less);
     Ok(())
@@ -107,10 +111,10 @@ fn turned_totals_add_and_order_by_their_meaning(rt: HostRuntime) -> Result<(), F
 
 #[test]
 fn turning_twice_changes_no_answer(rt: HostRuntime) -> Result<(), Fail> {
-    let total = minutes(5)?;
-    let sum = add_turned_twice(total, minutes_lag(2)?).ok_or("no total")?;
+    let total = total_of::<Minutes>(&[5])?;
+    let sum = add_turned_twice(total, lag_of::<Minutes>(&[2])?).ok_or("no total")?;
     assert_eq!(rt; sum.part(0), Some(7));
-    let rest = take_turned_twice(total, minutes_lag(2)?).ok_or("no total")?;
+    let rest = take_turned_twice(total, lag_of::<Minutes>(&[2])?).ok_or("no total")?;
     assert_eq!(rt; rest.part(0), Some(3));
     assert_eq!(rt; order_turned_twice(total, sum), Ordering::Less);
     Ok(())

@@ -1,3 +1,2 @@
 pub mod Clamps
-pub mod Orders
 pub mod Parts

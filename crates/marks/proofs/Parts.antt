@@ -1,6 +1,10 @@
--- Rows of one part and of two, from the numbers that they are made of.
-use Rattle.std.proofs.Common.{◌≡◌, ℕ, zero, suc, ◌+◌, ◌<◌, true, false, ◌&&◌, ◌⊎◌, [], ◌∷◌, length, get_or, drop, ℤ, pos, neg_ℤ, ◌≤ℤ◌, ◌<ℤ◌, Some, None, Ordering, Less, Equal, Greater, sym, refl, ap, ◌∙◌, inl, inr, arith}
-use Rattle.std.specs.Ordering.{MatchOrdering}
+-- Rows, from the numbers that are stored for their parts.
+use Rattle.std.proofs.Common.{◌≡◌, ℕ, zero, suc, ◌+◌, ◌<◌, Bool, ◌&&◌, [], ◌∷◌, length, get_or, map, drop, ℤ, pos, neg_ℤ, ◌≤ℤ◌, ◌<ℤ◌, int_cmp, Some, None, Ordering, Less, Equal, Greater, sym, refl, ap, ◌∙◌, subst, inl, inr, arith}
+use Rattle.std.specs.Cmp.Lexicographic.{slice_cmp}
+use Rattle.std.specs.List.{range_with_len}
+use Rattle.std.specs.Ordering.{MatchOrdering, ordering_then}
+use Rattle.std.proofs.lemmas.Cmp.{int_ranked}
+use Rattle.std.proofs.lemmas.List.FromFn.{fill_by_all}
 use Rattle.rows.specs.Rows.{Row, Before, Within, bounded, inside}
 use Rattle.marks.specs.Meaning.{clamped, Makes, part_at}
 use Rattle.rows.proofs.Sums.{cons≡}
@@ -10,55 +14,41 @@ use Rattle.marks.proofs.Clamps.{clamped_within}
 abbrev pub Inside : ℕ → ℤ → Type 0
 Inside limit x = (neg_ℤ (pos limit) ≤ℤ x) × (x ≤ℤ pos limit)
 
-pub one_made : (limit : ℕ) (xs : Row) (y : ℤ) → length xs ≡ 1 → Inside limit (get_or xs 0 (pos 0)) × (y ≡ get_or xs 0 (pos 0)) → Makes 1 limit xs × (◌≡◌ {A = Row} (clamped limit y ∷ []) xs)
-one_made limit [] y h k = absurd (omega arith)
-one_made limit (x ∷ []) y h k = ((h, (k.0, tt)), cons≡ (ap (clamped limit) k.1 ∙ clamped_within limit x k.0.0 k.0.1) refl)
-one_made limit (x ∷ z ∷ zs) y h k = absurd (omega arith)
+-- a row is the one that was asked for
+abbrev pub Meant : ℕ → Row → Row → Type 0
+Meant limit asked row = Within limit asked × (row ≡ asked)
 
-pub one_unmade : (limit : ℕ) (xs : Row) → (Inside limit (get_or xs 0 (pos 0)) → ⊥) → Makes 1 limit xs → ⊥
-one_unmade limit [] h k = absurd (omega arith)
-one_unmade limit (x ∷ xs) h k = h k.1.0
+pub none_meant : (limit : ℕ) → Meant limit [] []
+none_meant limit = (tt, refl)
 
-pub two_made : (limit : ℕ) (xs : Row) (y z : ℤ) → length xs ≡ 2 → Inside limit (get_or xs 0 (pos 0)) × (y ≡ get_or xs 0 (pos 0)) → Inside limit (get_or xs 1 (pos 0)) × (z ≡ get_or xs 1 (pos 0)) → Makes 2 limit xs × (◌≡◌ {A = Row} (clamped limit y ∷ (clamped limit z ∷ [])) xs)
-two_made limit [] y z h k l = absurd (omega arith)
-two_made limit (p ∷ []) y z h k l = absurd (omega arith)
-two_made limit (p ∷ q ∷ []) y z h k l =
-    ((h, (k.0, (l.0, tt))), cons≡ (ap (clamped limit) k.1 ∙ clamped_within limit p k.0.0 k.0.1) (cons≡ (ap (clamped limit) l.1 ∙ clamped_within limit q l.0.0 l.0.1) refl))
-two_made limit (p ∷ q ∷ r ∷ rs) y z h k l = absurd (omega arith)
+-- one part more, the number y that is stored for the part p
+pub part_meant : (limit : ℕ) (p y : ℤ) (ps row : Row) → Inside limit p × (y ≡ p) → Meant limit ps row → Meant limit (p ∷ ps) (clamped limit y ∷ row)
+part_meant limit p y ps row k h = ((k.0, h.0), cons≡ (ap (clamped limit) k.1 ∙ clamped_within limit p k.0.0 k.0.1) h.1)
 
-pub two_unmade : (limit : ℕ) (xs : Row) → ((Inside limit (get_or xs 0 (pos 0)) → ⊥) ⊎ (Inside limit (get_or xs 1 (pos 0)) → ⊥)) → Makes 2 limit xs → ⊥
-two_unmade limit [] h k = absurd (omega arith)
-two_unmade limit (p ∷ []) h k = absurd (omega arith)
-two_unmade limit (p ∷ q ∷ xs) (inl h) k = h k.1.0
-two_unmade limit (p ∷ q ∷ xs) (inr h) k = h k.1.1.0
+-- numbers of the right count, read one by one
+pub parts_read : (w : ℕ) (xs : Row) → length xs ≡ w → xs ≡ map (λ (i : ℕ). get_or xs i (pos 0)) (range_with_len 0 w)
+parts_read w xs e = fill_by_all (λ (i : ℕ). get_or xs i (pos 0)) xs w (pos 0) e (λ k lt. refl)
 
--- the row with the part p, from the number y that is stored for it
-pub one_sum : (limit : ℕ) (p y : ℤ) → Inside limit p × (y ≡ p) → Within limit (p ∷ []) × (◌≡◌ {A = Row} (clamped limit y ∷ []) (p ∷ []))
-one_sum limit p y k = ((k.0, tt), cons≡ (ap (clamped limit) k.1 ∙ clamped_within limit p k.0.0 k.0.1) refl)
+pub row_made : (w limit : ℕ) (xs row : Row) → length xs ≡ w → Meant limit (map (λ (i : ℕ). get_or xs i (pos 0)) (range_with_len 0 w)) row → Makes w limit xs × (row ≡ xs)
+row_made w limit xs row e h =
+    let back = sym (parts_read w xs e) in
+    ((e, subst (Within limit) back h.0), h.1 ∙ back)
 
-pub one_beyond : (limit : ℕ) (p : ℤ) → (Inside limit p → ⊥) → Within limit (p ∷ []) → ⊥
-one_beyond limit p h k = h k.0
+-- rows are ordered as lists of numbers are
 
--- the row with the parts p and q, from the numbers y and z that are stored for it
-pub two_sums : (limit : ℕ) (p q y z : ℤ) → Inside limit p × (y ≡ p) → Inside limit q × (z ≡ q) → Within limit (p ∷ (q ∷ [])) × (◌≡◌ {A = Row} (clamped limit y ∷ (clamped limit z ∷ [])) (p ∷ (q ∷ [])))
-two_sums limit p q y z k l =
-    ((k.0, (l.0, tt)), cons≡ (ap (clamped limit) k.1 ∙ clamped_within limit p k.0.0 k.0.1) (cons≡ (ap (clamped limit) l.1 ∙ clamped_within limit q l.0.0 l.0.1) refl))
+first_ranked : (o r : Ordering) (x y : ℤ) (xs ys : Row) → MatchOrdering o (x <ℤ y) (x ≡ y) (y <ℤ x) → MatchOrdering r (Before xs ys) (xs ≡ ys) (Before ys xs) → MatchOrdering (ordering_then o r) (Before (x ∷ xs) (y ∷ ys)) (◌≡◌ {A = Row} (x ∷ xs) (y ∷ ys)) (Before (y ∷ ys) (x ∷ xs))
+first_ranked Less r x y xs ys h k = inl h
+first_ranked Equal Less x y xs ys h k = inr (h, k)
+first_ranked Equal Equal x y xs ys h k = cons≡ h k
+first_ranked Equal Greater x y xs ys h k = inr (sym h, k)
+first_ranked Greater r x y xs ys h k = inl h
 
-pub two_beyond : (limit : ℕ) (p q : ℤ) → ((Inside limit p → ⊥) ⊎ (Inside limit q → ⊥)) → Within limit (p ∷ (q ∷ [])) → ⊥
-two_beyond limit p q (inl h) k = h k.0
-two_beyond limit p q (inr h) k = h k.1.0
-
--- where the first parts are the same, the second decide
-pub ranked_second : (r : Ordering) (a b c d : ℤ) → a ≡ b → MatchOrdering r (c <ℤ d) (c ≡ d) (d <ℤ c) → MatchOrdering r (Before (a ∷ (c ∷ [])) (b ∷ (d ∷ []))) (◌≡◌ {A = Row} (a ∷ (c ∷ [])) (b ∷ (d ∷ []))) (Before (b ∷ (d ∷ [])) (a ∷ (c ∷ [])))
-ranked_second Less a b c d p h = inr (p, inl h)
-ranked_second Equal a b c d p h = cons≡ p (cons≡ h refl)
-ranked_second Greater a b c d p h = inr (sym p, inl h)
-
--- where the first parts differ, they decide
-pub ranked_first : (r : Ordering) (a b c d : ℤ) → (r ≡ Equal → ⊥) → MatchOrdering r (a <ℤ b) (a ≡ b) (b <ℤ a) → MatchOrdering r (Before (a ∷ (c ∷ [])) (b ∷ (d ∷ []))) (◌≡◌ {A = Row} (a ∷ (c ∷ [])) (b ∷ (d ∷ []))) (Before (b ∷ (d ∷ [])) (a ∷ (c ∷ [])))
-ranked_first Less a b c d n h = inl h
-ranked_first Equal a b c d n h = absurd (n refl)
-ranked_first Greater a b c d n h = inl h
+pub rows_ranked : (xs ys : Row) → length xs ≡ length ys → MatchOrdering (slice_cmp int_cmp xs ys) (Before xs ys) (xs ≡ ys) (Before ys xs)
+rows_ranked [] [] e = refl
+rows_ranked [] (y ∷ ys) e = absurd (omega arith)
+rows_ranked (x ∷ xs) [] e = absurd (omega arith)
+rows_ranked (x ∷ xs) (y ∷ ys) e =
+    first_ranked (int_cmp x y) (slice_cmp int_cmp xs ys) x y xs ys (int_ranked x y (int_cmp x y) refl) (rows_ranked xs ys (omega arith))
 
 -- what stands at a numbered part
 
@@ -79,10 +69,7 @@ part_missing (x ∷ r) (suc i) h e = part_missing r i (omega arith) e
 
 -- one part more of a row that is tested part by part
 
-pub inside_more : (limit : ℕ) (r : Row) (i : ℕ) (p : ℤ) → part_at r i ≡ Some p → bounded limit p ≡ true → inside limit (drop i r) ≡ inside limit r → inside limit (drop (i + 1) r) ≡ inside limit r
-inside_more limit r i p h b e =
-    ap (λ t. t && inside limit (drop (i + 1) r)) (sym b) ∙ ap (inside limit) (sym (part_drop r i p h)) ∙ e
-
-pub inside_out : (limit : ℕ) (r : Row) (i : ℕ) (p : ℤ) → part_at r i ≡ Some p → bounded limit p ≡ false → inside limit (drop i r) ≡ inside limit r → false ≡ inside limit r
-inside_out limit r i p h b e =
-    ap (λ t. t && inside limit (drop (i + 1) r)) (sym b) ∙ ap (inside limit) (sym (part_drop r i p h)) ∙ e
+-- b says whether that part is within the limit
+pub inside_read : (limit : ℕ) (r : Row) (i : ℕ) (p : ℤ) (b : Bool) → part_at r i ≡ Some p → bounded limit p ≡ b → inside limit (drop i r) ≡ inside limit r → (b && inside limit (drop (i + 1) r)) ≡ inside limit r
+inside_read limit r i p b h within e =
+    ap (λ t. t && inside limit (drop (i + 1) r)) (sym within) ∙ ap (inside limit) (sym (part_drop r i p h)) ∙ e

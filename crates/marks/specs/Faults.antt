@@ -1,7 +1,7 @@
--- The number and the layer of each fault of a mark.
-use Rattle.std.specs.Prelude.{ℕ}
+-- The number and the layer of each fault of a mark, and the words for layers.
+use Rattle.std.specs.Prelude.{ℕ, List, codes}
 use Rattle.marks.specs.declared.fault.Layer.{Layer}
-use Rattle.marks.specs.declared.fault.Layer.TheVariants.{Mark}
+use Rattle.marks.specs.declared.fault.Layer.TheVariants.{Mark, Plan, Sheet}
 use Rattle.marks.specs.declared.fault.MarkFault.{MarkFault}
 use Rattle.marks.specs.declared.fault.MarkFault.TheVariants.{NoLag}
 
@@ -10,3 +10,8 @@ mark_number NoLag = 10
 
 abbrev pub mark_layer : MarkFault → Layer
 mark_layer NoLag = Mark
+
+abbrev pub layer_word : Layer → List ℕ
+layer_word Mark = codes "mark"
+layer_word Plan = codes "plan"
+layer_word Sheet = codes "sheet"

@@ -1,5 +1,5 @@
 -- What the functions of a kind of mark answer, in terms of the rows that lags and totals mean.
-use Rattle.std.specs.Prelude.{◌≡◌, ℕ, zero, suc, List, [], ◌∷◌, length, ℤ, pos, neg_ℤ, ◌≤ℤ◌, Some, None, Ok, Err, Option, Result}
+use Rattle.std.specs.Prelude.{◌≡◌, ℕ, List, length, ℤ, pos, neg_ℤ, ◌≤ℤ◌, Some, None, Ok, Err, Option, Result, slice_get}
 use Rattle.std.specs.Int.{int_max, int_min}
 use Rattle.rows.specs.Rows.{Row, Within}
 use Rattle.rows.specs.Limits.{lag_limit, total_limit}
@@ -31,9 +31,7 @@ TotalOf row x None = Within total_limit x → ⊥
 
 -- the numbered part of a row, counted from 0, and nothing from the width on
 abbrev pub part_at : Row → ℕ → Option ℤ
-part_at [] i = None
-part_at (x ∷ xs) zero = Some x
-part_at (x ∷ xs) (suc i) = part_at xs i
+part_at x i = slice_get x i
 
 -- a number x within the limit, or nothing exactly when it is beyond
 abbrev pub NumberOf : ℕ → ℤ → Option ℤ → Type 0

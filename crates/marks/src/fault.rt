@@ -1,6 +1,9 @@
 // What a mark refuses.
-ghost use Rattle.std.specs.Prelude.{◌≡◌};
-ghost use Rattle.marks.specs.Faults.{mark_number, mark_layer};
+ghost use Rattle.std.specs.Prelude.{◌≡◌, Some};
+ghost use Rattle.marks.specs.Faults.{layer_word, mark_number, mark_layer};
+
+use std::fmt;
+use thiserror::Error;
 
 // The layers a fault can come from.
 #[derive(Clone, Copy, PartialEq, Eq, Debug)]
@@ -10,13 +13,27 @@ pub enum Layer {
     Sheet,
 }
 
-#[derive(Clone, Copy, PartialEq, Eq, Debug)]
+impl fmt::Display for Layer {
+    ghost output = { λ layer. Some (layer_word layer) };
+
+    fn fmt<W: fmt::Write>(&self, f: &mut fmt::Formatter<W>) -> fmt::Result {
+        match self {
+            Layer::Mark => write!(f, "mark"),
+            Layer::Plan => write!(f, "plan"),
+            Layer::Sheet => write!(f, "sheet"),
+        }
+    }
+}
+
+#[derive(Clone, Copy, PartialEq, Eq, Debug, Error)]
 pub enum MarkFault {
-    // 10: the numbers are not the parts of a lag
+    // 10
+    #[error("the numbers are not the parts of a lag")]
     NoLag,
 }
 
 impl MarkFault {
+    // a match, as for a plan's fault, where a case has a field
     pub fn number(self) -> u8
         ensures { result ≡ mark_number self }
     {

@@ -8,14 +8,16 @@ ghost use Rattle.std.proofs.Common.{rules};
 
 use marks::fault::MarkFault;
 use marks::kind::Mark;
-use marks::numbers::{add_parts, lag_part, take_parts, total_part, within_lag, within_total};
+use marks::numbers::{Limit, add_parts, take_parts};
 use std::cmp::Ordering;
 
+// No array of a const width, shared with wider kinds: it stayed open that what is read from it fits 64 bits, and that its size does.
 #[derive(Clone, Copy, Debug)]
 pub struct Minutes {
     minute: i64,
 }
 
+// A type of its own, so that no lag is taken for a total.
 #[derive(Clone, Copy, Debug)]
 pub struct MinutesLag {
     minute: i64,
@@ -49,20 +51,18 @@ impl Mark for Minutes {
     }
 
     fn make_lag(parts: &[i64]) -> Result<MinutesLag, MarkFault> {
-        if parts.len() != 1 {
+        let [minute] = parts else {
             return Err(MarkFault::NoLag);
-        }
-        match within_lag(parts[0]) {
-            Some(minute) => Ok(MinutesLag { minute }),
-            None => Err(MarkFault::NoLag),
-        }
+        };
+        let minute = Limit::Lag.within(*minute).ok_or(MarkFault::NoLag)?;
+        Ok(MinutesLag { minute })
     }
 
     fn make_total(parts: &[i64]) -> Option<Minutes> {
-        if parts.len() != 1 {
+        let [minute] = parts else {
             return None;
-        }
-        let minute = within_total(parts[0])?;
+        };
+        let minute = Limit::Total.within(*minute)?;
         Some(Minutes { minute })
     }
 
@@ -81,20 +81,16 @@ impl Mark for Minutes {
     }
 
     fn order(self, other: Minutes) -> Ordering {
-        total_part(self.minute).cmp(&total_part(other.minute))
+        Limit::Total
+            .clamp(self.minute)
+            .cmp(&Limit::Total.clamp(other.minute))
     }
 
     fn part(self, index: usize) -> Option<i64> {
-        match index {
-            0 => Some(total_part(self.minute)),
-            _ => None,
-        }
+        [Limit::Total.clamp(self.minute)].get(index).copied()
     }
 
     fn lag_part(lag: MinutesLag, index: usize) -> Option<i64> {
-        match index {
-            0 => Some(lag_part(lag.minute)),
-            _ => None,
-        }
+        [Limit::Lag.clamp(lag.minute)].get(index).copied()
     }
 }

@@ -20,7 +20,7 @@ pub times_sized : {A : Type 0} (w m : ℕ) (row : A → Row) → ((total : A) �
 times_sized w m row wide xs v v_in = mapped_rowed w row wide (get_or xs v None)
 
 -- what a place read by the program means
-pub cell_is : {A : Type 0} (row : A → Row) (xs : List (Option A)) (i : ℕ) (x : Option A) → i < length xs → x ≡ get_or xs i x → times row xs i ≡ option_map row x
+cell_is : {A : Type 0} (row : A → Row) (xs : List (Option A)) (i : ℕ) (x : Option A) → i < length xs → x ≡ get_or xs i x → times row xs i ≡ option_map row x
 cell_is row xs i x h e = ap (option_map row) (sym (get_or_read xs i x h e None))
 
 -- a total followed along a lag, where the sum is inside the limit, is the sum

@@ -1,3 +1,4 @@
 pub mod Cells
+pub mod Nets
 pub mod Raising
 pub mod Rounding

@@ -1,6 +1,7 @@
 -- One event raised, lag by lag.
-use Rattle.std.proofs.Common.{◌≡◌, ℕ, suc, ◌+◌, ◌<◌, ◌==◌, Bool, true, false, Some, None, Option, Ordering, Less, Equal, Greater, sym, refl, ap, ◌∙◌, subst, add-one, arith}
-use Rattle.std.specs.Ordering.{MatchOrdering, ordering_index}
+use Rattle.std.proofs.Common.{◌≡◌, ℕ, suc, ◌+◌, ◌<◌, IsTrue, Bool, true, false, Some, None, Option, Ordering, Less, Equal, Greater, sym, refl, ap, ◌∙◌, subst, add-one, arith}
+use Rattle.std.specs.Option.{MatchOption, option_map}
+use Rattle.std.specs.Ordering.{is_lt, MatchOrdering}
 use Rattle.std.proofs.lemmas.Bool.{true≢false}
 use Rattle.rows.specs.Rows.{Row, Before}
 use Rattle.rows.specs.MaxPlus.{before, later, added}
@@ -16,16 +17,21 @@ use Rattle.network.specs.Steps.{beats, Raised}
 
 -- the test of the order
 
-pub less_is_before : (o : Ordering) (b : Bool) (x y : Row) → MatchOrdering o (Before x y) (x ≡ y) (Before y x) → b ≡ (ordering_index o == 0) → b ≡ before x y
-less_is_before o b x y r e = e ∙ go o (before x y) r (decided x y)
+pub is_lt_before : (o : Ordering) (x y : Row) → MatchOrdering o (Before x y) (x ≡ y) (Before y x) → is_lt o ≡ before x y
+is_lt_before o x y r = go o (before x y) r (decided x y)
   where
-    go : (o : Ordering) (d : Bool) → MatchOrdering o (Before x y) (x ≡ y) (Before y x) → Decided x y d → (ordering_index o == 0) ≡ d
+    go : (o : Ordering) (d : Bool) → MatchOrdering o (Before x y) (x ≡ y) (Before y x) → Decided x y d → is_lt o ≡ d
     go Less d r (holds e h) = sym e
     go Less d r (fails e n) = absurd (n r)
     go Equal d r (holds e h) = absurd (NotBefore-same x y r h)
     go Equal d r (fails e n) = sym e
     go Greater d r (holds e h) = absurd (before_asym y x r h)
     go Greater d r (fails e n) = sym e
+
+-- what a test of the best so far tells, if there is one, tells `beats`
+pub beats_is : {A : Type 0} (row : A → Row) (z : Row) (o : Option A) (b : Bool) (Q : A → Type 0) → ((x : A) → Q x → b ≡ before (row x) z) → MatchOption o (IsTrue b) Q → b ≡ beats z (option_map row o)
+beats_is row z None b Q each h = h
+beats_is row z (Some x) b Q each h = each x h
 
 beats_below : (z : Row) (o : Option Row) → beats z o ≡ true → Below o (Some z)
 beats_below z None e = tt
@@ -44,9 +50,6 @@ later_none None = refl
 later_none (Some x) = refl
 
 module _ (m : ℕ) (L : Lags) (S : Totals) (v : ℕ) where
-  pub raised_none : (o : Option Row) → o ≡ S v → Raised m 0 L S v o None
-  raised_none o e = record { total = e; came = e }
-
   raised_kept : (n : ℕ) (o : Option Row) (u : Option ℕ) → Raised m n L S v o u → o ≡ later o (added (S n) (L v n)) → Raised m (n + 1) L S v o u
   raised_kept n o u h e =
       rw add-one (record { total = e ∙ ap (λ (p : Option Row). later p (added (S n) (L v n))) h.total; came = h.came })
@@ -76,6 +79,3 @@ module _ (m : ℕ) (L : Lags) (S : Totals) (v : ℕ) where
       source =
           let p = after_from (S n) (L v n) z e in
           record { inside = n_in; total = p.0; lag = p.1; stands = p.3; known = p.2; gives = ap (λ (t : Row). Some t) p.4 }
-
-  pub raised_all : (n : ℕ) (o : Option Row) (u : Option ℕ) → n ≡ m → Raised m n L S v o u → Raised m m L S v o u
-  raised_all n o u e h = subst (λ (i : ℕ). Raised m i L S v o u) e h

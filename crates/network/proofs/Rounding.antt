@@ -1,10 +1,10 @@
 -- One round, event by event.
-use Rattle.std.proofs.Common.{◌≡◌, ℕ, ◌+◌, ◌<◌, List, length, get_or, set, Some, None, Option, sym, refl, ap, ◌∙◌, subst, arith, get_or-set_other, get_or-set_same, below_more}
+use Rattle.std.proofs.Common.{◌≡◌, ℕ, ◌+◌, ◌<◌, List, length, set, slice_index, Some, None, Option, sym, refl, ap, ◌∙◌, subst, arith, get_or-set_other, get_or-set_same, below_more}
 use Rattle.std.specs.Option.{option_map}
 use Rattle.rows.specs.Rows.{Row}
 use Rattle.schedules.specs.Plans.{Lags, Totals}
 use Rattle.schedules.specs.Rounds.{round}
-use Rattle.schedules.specs.Walks.{Source, kept_at}
+use Rattle.schedules.specs.Walks.{Source}
 use Rattle.tables.specs.Tables.{times}
 use Rattle.network.specs.Steps.{Raised, Tells, WentRound}
 
@@ -17,13 +17,6 @@ times_set_before : {A : Type 0} (row : A → Row) (xs : List (Option A)) (n : �
 times_set_before row xs n x v h = ap (option_map row) (get_or-set_other xs n v x None (λ e. omega arith))
 
 module _ (m : ℕ) (L : Lags) (S : Totals) where
-  pub went_none : (R : Totals) (from : ℕ → ℕ) → WentRound m 0 L S R from None
-  went_none R from = record {
-    totals = λ v h. absurd (omega arith);
-    traced = λ v h. absurd (omega arith);
-    tells = λ v h. absurd (omega arith);
-  }
-
   module _ (n : ℕ) (R Q : Totals) (from to : ℕ → ℕ) (changed : Option ℕ) (went : WentRound m n L S R from changed) (same : (v : ℕ) → v < n → Q v ≡ R v) (kept : (v : ℕ) → v < n → to v ≡ from v) where
     totals_more : Q n ≡ round m L S n → (v : ℕ) → v < n + 1 → Q v ≡ round m L S v
     totals_more e = below_more (λ v. Q v ≡ round m L S v) n (λ v h. same v h ∙ went.totals v h) e
@@ -55,19 +48,22 @@ module _ (m : ℕ) (L : Lags) (S : Totals) where
       tells = (omega arith, h.came.0);
     }
 
-  pub went_all : (n : ℕ) (R : Totals) (from : ℕ → ℕ) (changed : Option ℕ) → n ≡ m → WentRound m n L S R from changed → WentRound m m L S R from changed
-  went_all n R from changed e h = subst (λ (i : ℕ). WentRound m i L S R from changed) e h
+  -- every event, where `to` keeps what `from` kept
+  pub went_all : (n : ℕ) (R : Totals) (from to : ℕ → ℕ) (changed : Option ℕ) → n ≡ m → ((v : ℕ) → v < m → to v ≡ from v) → WentRound m n L S R from changed → WentRound m m L S R to changed
+  went_all n R from to changed e kept h =
+      let went = subst (λ (i : ℕ). WentRound m i L S R from changed) e h in
+      record {
+        totals = went.totals;
+        traced = λ v k d. subst (λ (u : ℕ). Source m L S v u (R v)) (sym (kept v k)) (went.traced v k d);
+        tells = went.tells;
+      }
 
-  module _ {A : Type 0} (row : A → Row) (xs : List (Option A)) (sources : List ℕ) (base n : ℕ) (changed : Option ℕ) (total : Option A) (n_in : n < length xs) (went : WentRound m n L S (times row xs) (kept_at sources base) changed) where
+  module _ {A : Type 0} (row : A → Row) (xs : List (Option A)) (sources : List ℕ) (n : ℕ) (changed : Option ℕ) (total : Option A) (n_in : n < length xs) (went : WentRound m n L S (times row xs) (slice_index sources) changed) where
     -- so in the program's rows
-    pub wrote_kept : Raised m m L S n (option_map row total) None → WentRound m (n + 1) L S (times row (set xs n total)) (kept_at sources base) changed
+    pub wrote_kept : Raised m m L S n (option_map row total) None → WentRound m (n + 1) L S (times row (set xs n total)) (slice_index sources) changed
     wrote_kept h =
-        went_kept n (times row xs) (times row (set xs n total)) (kept_at sources base) (kept_at sources base) changed went (times_set_before row xs n total) (λ v k. refl) (subst (λ (o : Option Row). Raised m m L S n o None) (times_set row xs n total n_in) h)
+        went_kept n (times row xs) (times row (set xs n total)) (slice_index sources) (slice_index sources) changed went (times_set_before row xs n total) (λ v k. refl) (subst (λ (o : Option Row). Raised m m L S n o None) (times_set row xs n total n_in) h)
 
-    pub wrote_risen : (u : ℕ) → base + n < length sources → Raised m m L S n (option_map row total) (Some u) → WentRound m (n + 1) L S (times row (set xs n total)) (kept_at (set sources (base + n) u) base) (Some n)
+    pub wrote_risen : (u : ℕ) → n < length sources → Raised m m L S n (option_map row total) (Some u) → WentRound m (n + 1) L S (times row (set xs n total)) (slice_index (set sources n u)) (Some n)
     wrote_risen u room h =
-        went_risen n (times row xs) (times row (set xs n total)) (kept_at sources base) (kept_at (set sources (base + n) u) base) changed went (times_set_before row xs n total) (λ v k. get_or-set_other sources (base + n) (base + v) u 0 (λ e. omega arith)) u (get_or-set_same sources (base + n) u 0 room) (subst (λ (o : Option Row). Raised m m L S n o (Some u)) (times_set row xs n total n_in) h)
-
--- places before `base` stay
-pub kept_more : (before sources : List ℕ) (base n u : ℕ) → ((i : ℕ) → i < base → get_or sources i 0 ≡ get_or before i 0) → (i : ℕ) → i < base → get_or (set sources (base + n) u) i 0 ≡ get_or before i 0
-kept_more before sources base n u kept i h = get_or-set_other sources (base + n) i u 0 (λ e. omega arith) ∙ kept i h
+        went_risen n (times row xs) (times row (set xs n total)) (slice_index sources) (slice_index (set sources n u)) changed went (times_set_before row xs n total) (λ v k. get_or-set_other sources n v u 0 (λ e. omega arith)) u (get_or-set_same sources n u 0 room) (subst (λ (o : Option Row). Raised m m L S n o (Some u)) (times_set row xs n total n_in) h)

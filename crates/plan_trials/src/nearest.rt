@@ -1,30 +1,17 @@
 // closest: worked values, a stage without a lag, and the limits.
-use crate::shared::{minutes_at, number, time};
-use marks::kind::Mark;
+use crate::shared::{minutes_at, numbered, table_of, time};
+use marks::fault::MarkFault;
 use minutes::{Minutes, MinutesLag};
-use tables::layout::put_lag;
+use std::test::Fail;
 
 const EVENTS: usize = 5;
 
-const PLACES: usize = 25;
-
-type Table = [Option<MinutesLag>; PLACES];
+type Table = [Option<MinutesLag>; EVENTS * EVENTS];
 
 type Times = [Option<Minutes>; EVENTS];
 
-// Of each lag: the event it is to, the event it is from, the minutes.
-fn lay_lags(table: &mut [Option<MinutesLag>], lags: &[(usize, usize, i64)]) {
-    for (to, from, minutes) in lags {
-        if let Ok(lag) = Minutes::make_lag(&[*minutes]) {
-            put_lag::<Minutes>(EVENTS, table, *to, *from, Some(lag));
-        }
-    }
-}
-
-fn two_stages(lags: &[(usize, usize, i64)]) -> Table {
-    let mut table = [None; PLACES];
-    lay_lags(&mut table, lags);
-    table
+fn two_stages(lags: &[(usize, usize, i64)]) -> Result<Table, MarkFault> {
+    table_of(EVENTS, lags)
 }
 
 fn due_times(first: i64, second: i64) -> Times {
@@ -32,73 +19,105 @@ fn due_times(first: i64, second: i64) -> Times {
 }
 
 #[test]
-fn the_largest_miss_is_halved(rt: HostRuntime) {
-    let table = two_stages(&[(2, 1, 5), (2, 3, 5), (4, 1, 5), (4, 3, 5)]);
+fn the_largest_miss_is_halved(rt: HostRuntime) -> Result<(), Fail> {
+    let table = two_stages(&[(2, 1, 5), (2, 3, 5), (4, 1, 5), (4, 3, 5)])?;
     let mut starts: Times = [time(1); EVENTS];
     let distance = plan::closest(2, &table, &due_times(10, 13), &mut starts);
-    assert_eq!(rt; distance.unwrap_or(9), 2);
+    assert_eq!(rt; distance, Ok(2));
     assert_eq!(rt; minutes_at(&starts, 1), Some(7));
     assert_eq!(rt; minutes_at(&starts, 3), Some(7));
     assert_eq!(rt; minutes_at(&starts, 0), None);
     assert_eq!(rt; minutes_at(&starts, 2), None);
     assert_eq!(rt; minutes_at(&starts, 4), None);
+    Ok(())
 }
 
 #[test]
-fn due_times_that_can_be_met_are_met(rt: HostRuntime) {
-    let table = two_stages(&[(2, 1, 5), (4, 3, -7)]);
+fn due_times_that_can_be_met_are_met(rt: HostRuntime) -> Result<(), Fail> {
+    let table = two_stages(&[(2, 1, 5), (4, 3, -7)])?;
     let mut starts: [Option<Minutes>; 6] = [time(1); 6];
     let distance = plan::closest(2, &table, &due_times(10, 13), &mut starts);
-    assert_eq!(rt; distance.unwrap_or(9), 0);
+    assert_eq!(rt; distance, Ok(0));
     assert_eq!(rt; minutes_at(&starts, 1), Some(5));
     assert_eq!(rt; minutes_at(&starts, 3), Some(20));
     assert_eq!(rt; minutes_at(&starts, 5), Some(1));
+    Ok(())
 }
 
 #[test]
-fn every_finish_and_start_wants_a_lag(rt: HostRuntime) {
-    let no_finish = two_stages(&[(2, 1, 5), (2, 3, 5)]);
-    let no_start = two_stages(&[(2, 3, 5), (4, 3, 5)]);
+fn every_finish_and_start_wants_a_lag(rt: HostRuntime) -> Result<(), Fail> {
+    let no_finish = two_stages(&[(2, 1, 5), (2, 3, 5)])?;
+    let no_start = two_stages(&[(2, 3, 5), (4, 3, 5)])?;
     let due = due_times(10, 13);
     let mut starts: Times = [time(1); EVENTS];
-    assert_eq!(rt; number(plan::closest(2, &no_finish, &due, &mut starts)), 13);
-    assert_eq!(rt; number(plan::closest(2, &no_start, &due, &mut starts)), 13);
+    assert_eq!(rt;
+        numbered(plan::closest(2, &no_finish, &due, &mut starts)),
+        Err(13)
+    );
+    assert_eq!(rt;
+        numbered(plan::closest(2, &no_start, &due, &mut starts)),
+        Err(13)
+    );
     assert_eq!(rt; minutes_at(&starts, 1), Some(1));
+    Ok(())
 }
 
 #[test]
-fn earlier_checks_come_first(rt: HostRuntime) {
-    let table = two_stages(&[]);
+fn earlier_checks_come_first(rt: HostRuntime) -> Result<(), Fail> {
+    let table = two_stages(&[])?;
     let due = due_times(10, 13);
     let none: Times = [None; EVENTS];
     let mut starts: Times = [time(1); EVENTS];
     let mut short = [time(1); 4];
-    assert_eq!(rt; number(plan::closest(0, &table, &due, &mut starts)), 3);
-    assert_eq!(rt; number(plan::closest(3, &table, &due, &mut starts)), 4);
-    assert_eq!(rt; number(plan::closest(2, &table, &due, &mut short)), 5);
-    assert_eq!(rt; number(plan::closest(2, &table, &none, &mut starts)), 12);
     assert_eq!(rt;
-        number(plan::closest(2, &table, &due_times(10, 1_000_000_001), &mut starts)),
-        12
+        numbered(plan::closest(0, &table, &due, &mut starts)),
+        Err(3)
     );
-    assert_eq!(rt; number(plan::closest(2, &table, &due, &mut starts)), 13);
+    assert_eq!(rt;
+        numbered(plan::closest(3, &table, &due, &mut starts)),
+        Err(4)
+    );
+    assert_eq!(rt;
+        numbered(plan::closest(2, &table, &due, &mut short)),
+        Err(5)
+    );
+    assert_eq!(rt;
+        numbered(plan::closest(2, &table, &none, &mut starts)),
+        Err(12)
+    );
+    assert_eq!(rt;
+        numbered(plan::closest(2, &table, &due_times(10, 1_000_000_001), &mut starts)),
+        Err(12)
+    );
+    assert_eq!(rt;
+        numbered(plan::closest(2, &table, &due, &mut starts)),
+        Err(13)
+    );
+    Ok(())
 }
 
 #[test]
-fn numbers_at_the_limits_fit(rt: HostRuntime) {
-    let table = two_stages(&[(2, 1, -1_000_000), (4, 1, 1_000_000), (4, 3, 1_000_000)]);
+fn numbers_at_the_limits_fit(rt: HostRuntime) -> Result<(), Fail> {
+    let table = two_stages(&[(2, 1, -1_000_000), (4, 1, 1_000_000), (4, 3, 1_000_000)])?;
     let due = due_times(1_000_000_000, -1_000_000_000);
     let mut starts: Times = [None; EVENTS];
     let distance = plan::closest(2, &table, &due, &mut starts);
-    assert_eq!(rt; distance.unwrap_or(9), 1_001_000_000);
+    assert_eq!(rt; distance, Ok(1_001_000_000));
     assert_eq!(rt; minutes_at(&starts, 1), Some(0));
     assert_eq!(rt; minutes_at(&starts, 3), Some(0));
     let late = due_times(1_000_000_000, 1_000_000_000);
-    let early = two_stages(&[(2, 1, -1_000_000), (4, 3, -1_000_000)]);
-    assert_eq!(rt; number(plan::closest(2, &early, &late, &mut starts)), 0);
+    let early = two_stages(&[(2, 1, -1_000_000), (4, 3, -1_000_000)])?;
+    assert_eq!(rt;
+        numbered(plan::closest(2, &early, &late, &mut starts)),
+        Ok(0)
+    );
     assert_eq!(rt; minutes_at(&starts, 1), Some(1_001_000_000));
     let soon = due_times(-1_000_000_000, -1_000_000_000);
-    let long = two_stages(&[(2, 1, 1_000_000), (4, 3, 1_000_000)]);
-    assert_eq!(rt; number(plan::closest(2, &long, &soon, &mut starts)), 0);
+    let long = two_stages(&[(2, 1, 1_000_000), (4, 3, 1_000_000)])?;
+    assert_eq!(rt;
+        numbered(plan::closest(2, &long, &soon, &mut starts)),
+        Ok(0)
+    );
     assert_eq!(rt; minutes_at(&starts, 3), Some(-1_001_000_000));
+    Ok(())
 }

@@ -1,32 +1,21 @@
 // A plan of two stages, and each check that its calls can miss.
-use crate::shared::{minutes_at, number, time};
-use marks::fault::Layer;
+use crate::shared::{lay_lags, minutes_at, numbered, table_of, time};
+use marks::fault::{Layer, MarkFault};
 use marks::kind::Mark;
 use minutes::{Minutes, MinutesLag};
 use plan::PlanFault;
 use std::test::Fail;
-use tables::layout::{lag_at, put_lag};
+use tables::layout::lag_at;
 
 const EVENTS: usize = 5;
 
-const PLACES: usize = 25;
-
-type Table = [Option<MinutesLag>; PLACES];
+type Table = [Option<MinutesLag>; EVENTS * EVENTS];
 
 type Times = [Option<Minutes>; EVENTS];
 
-fn lag(minutes: i64) -> Result<MinutesLag, Fail> {
-    Ok(Minutes::make_lag(&[minutes])?)
-}
-
 // The first finish hangs on both starts, the second on its own; stage 2 starts at least 3 after stage 1.
-fn two_stages() -> Result<Table, Fail> {
-    let mut table = [None; PLACES];
-    put_lag::<Minutes>(EVENTS, &mut table, 2, 1, Some(lag(5)?));
-    put_lag::<Minutes>(EVENTS, &mut table, 2, 3, Some(lag(-2)?));
-    put_lag::<Minutes>(EVENTS, &mut table, 4, 3, Some(lag(7)?));
-    put_lag::<Minutes>(EVENTS, &mut table, 3, 1, Some(lag(3)?));
-    Ok(table)
+fn two_stages() -> Result<Table, MarkFault> {
+    table_of(EVENTS, &[(2, 1, 5), (2, 3, -2), (4, 3, 7), (3, 1, 3)])
 }
 
 #[test]
@@ -35,8 +24,8 @@ fn finish_takes_the_latest_sum(rt: HostRuntime) -> Result<(), Fail> {
     let starts = [None, time(10), None, time(30), None];
     let mut finishes: Times = [time(1); EVENTS];
     assert_eq!(rt;
-        number(plan::finish::<Minutes>(2, &table, &starts, &mut finishes)),
-        0
+        numbered(plan::finish::<Minutes>(2, &table, &starts, &mut finishes)),
+        Ok(())
     );
     assert_eq!(rt; minutes_at(&finishes, 2), Some(28));
     assert_eq!(rt; minutes_at(&finishes, 4), Some(37));
@@ -51,8 +40,8 @@ fn backward_takes_the_earliest_difference(rt: HostRuntime) -> Result<(), Fail> {
     let due = [None, None, time(20), None, time(40)];
     let mut starts: Times = [time(1); EVENTS];
     assert_eq!(rt;
-        number(plan::backward::<Minutes>(2, &table, &due, &mut starts)),
-        0
+        numbered(plan::backward::<Minutes>(2, &table, &due, &mut starts)),
+        Ok(())
     );
     assert_eq!(rt; minutes_at(&starts, 1), Some(15));
     assert_eq!(rt; minutes_at(&starts, 3), Some(22));
@@ -63,12 +52,15 @@ fn backward_takes_the_earliest_difference(rt: HostRuntime) -> Result<(), Fail> {
 #[test]
 fn a_start_without_lags_is_free(rt: HostRuntime) -> Result<(), Fail> {
     let mut table = two_stages()?;
-    assert_eq!(rt; number(plan::drop::<Minutes>(2, &mut table, 2, 1)), 0);
+    assert_eq!(rt;
+        numbered(plan::drop::<Minutes>(2, &mut table, 2, 1)),
+        Ok(())
+    );
     let due = [None, None, time(20), None, time(40)];
     let mut starts: Times = [time(1); EVENTS];
     assert_eq!(rt;
-        number(plan::backward::<Minutes>(2, &table, &due, &mut starts)),
-        0
+        numbered(plan::backward::<Minutes>(2, &table, &due, &mut starts)),
+        Ok(())
     );
     assert_eq!(rt; minutes_at(&starts, 1), None);
     Ok(())
@@ -78,14 +70,11 @@ fn a_start_without_lags_is_free(rt: HostRuntime) -> Result<(), Fail> {
 fn check_names_the_first_broken_lag(rt: HostRuntime) -> Result<(), Fail> {
     let table = two_stages()?;
     let kept = [time(0), time(10), time(15), time(13), time(20)];
-    assert_eq!(rt;
-        plan::check::<Minutes>(2, &table, &kept).unwrap_or(Some((9, 9))),
-        None
-    );
+    assert_eq!(rt; plan::check::<Minutes>(2, &table, &kept), Ok(None));
     let broken = [time(0), time(10), time(14), time(12), time(18)];
     assert_eq!(rt;
-        plan::check::<Minutes>(2, &table, &broken).unwrap_or(None),
-        Some((2, 1))
+        plan::check::<Minutes>(2, &table, &broken),
+        Ok(Some((2, 1)))
     );
     Ok(())
 }
@@ -93,26 +82,17 @@ fn check_names_the_first_broken_lag(rt: HostRuntime) -> Result<(), Fail> {
 #[test]
 fn waiting_follows_chains(rt: HostRuntime) -> Result<(), Fail> {
     let mut table = two_stages()?;
-    assert_eq!(rt;
-        plan::waiting::<Minutes>(2, &table, 1).unwrap_or((0, 0)),
-        (0b11100, 3)
-    );
-    assert_eq!(rt;
-        plan::waiting::<Minutes>(2, &table, 3).unwrap_or((0, 0)),
-        (0b10100, 2)
-    );
-    put_lag::<Minutes>(EVENTS, &mut table, 1, 4, Some(lag(-50)?));
-    assert_eq!(rt;
-        plan::waiting::<Minutes>(2, &table, 4).unwrap_or((0, 0)),
-        (0b01110, 3)
-    );
+    assert_eq!(rt; plan::waiting::<Minutes>(2, &table, 1), Ok((0b11100, 3)));
+    assert_eq!(rt; plan::waiting::<Minutes>(2, &table, 3), Ok((0b10100, 2)));
+    lay_lags(EVENTS, &mut table, &[(1, 4, -50)])?;
+    assert_eq!(rt; plan::waiting::<Minutes>(2, &table, 4), Ok((0b01110, 3)));
     Ok(())
 }
 
 #[test]
 fn void_clears_rows_and_columns(rt: HostRuntime) -> Result<(), Fail> {
     let mut table = two_stages()?;
-    assert_eq!(rt; number(plan::void::<Minutes>(2, &mut table, 2)), 0);
+    assert_eq!(rt; numbered(plan::void::<Minutes>(2, &mut table, 2)), Ok(()));
     assert!(rt; lag_at::<Minutes>(EVENTS, &table, 2, 1).is_some());
     assert!(rt; lag_at::<Minutes>(EVENTS, &table, 2, 3).is_none());
     assert!(rt; lag_at::<Minutes>(EVENTS, &table, 4, 3).is_none());
@@ -122,13 +102,13 @@ fn void_clears_rows_and_columns(rt: HostRuntime) -> Result<(), Fail> {
 
 #[test]
 fn stages_and_tables_are_checked(rt: HostRuntime) {
-    let mut table: Table = [None; PLACES];
+    let mut table: Table = [None; EVENTS * EVENTS];
     let mut largest: [Option<MinutesLag>; 3969] = [None; 3969];
-    assert_eq!(rt; number(plan::open::<Minutes>(0, &mut table)), 3);
-    assert_eq!(rt; number(plan::open::<Minutes>(32, &mut table)), 3);
-    assert_eq!(rt; number(plan::open::<Minutes>(3, &mut table)), 4);
-    assert_eq!(rt; number(plan::open::<Minutes>(31, &mut largest)), 0);
-    assert_eq!(rt; number(plan::open::<Minutes>(2, &mut table)), 0);
+    assert_eq!(rt; numbered(plan::open::<Minutes>(0, &mut table)), Err(3));
+    assert_eq!(rt; numbered(plan::open::<Minutes>(32, &mut table)), Err(3));
+    assert_eq!(rt; numbered(plan::open::<Minutes>(3, &mut table)), Err(4));
+    assert_eq!(rt; numbered(plan::open::<Minutes>(31, &mut largest)), Ok(()));
+    assert_eq!(rt; numbered(plan::open::<Minutes>(2, &mut table)), Ok(()));
 }
 
 #[test]
@@ -137,16 +117,22 @@ fn rows_events_and_stages_are_checked(rt: HostRuntime) -> Result<(), Fail> {
     let mut short = [time(1); 4];
     let row: Times = [time(1); EVENTS];
     assert_eq!(rt;
-        number(plan::finish::<Minutes>(2, &table, &row, &mut short)),
-        5
+        numbered(plan::finish::<Minutes>(2, &table, &row, &mut short)),
+        Err(5)
     );
     assert_eq!(rt; minutes_at(&short, 0), Some(1));
-    assert_eq!(rt; number(plan::drop::<Minutes>(2, &mut table, 5, 0)), 9);
-    assert_eq!(rt; number(plan::drop::<Minutes>(2, &mut table, 0, 5)), 9);
-    assert_eq!(rt; number(plan::void::<Minutes>(2, &mut table, 0)), 9);
-    assert_eq!(rt; number(plan::void::<Minutes>(2, &mut table, 3)), 9);
-    assert_eq!(rt; number(plan::waiting::<Minutes>(2, &table, 5)), 9);
-    assert_eq!(rt; number(plan::waiting::<Minutes>(3, &table, 9)), 4);
+    assert_eq!(rt;
+        numbered(plan::drop::<Minutes>(2, &mut table, 5, 0)),
+        Err(9)
+    );
+    assert_eq!(rt;
+        numbered(plan::drop::<Minutes>(2, &mut table, 0, 5)),
+        Err(9)
+    );
+    assert_eq!(rt; numbered(plan::void::<Minutes>(2, &mut table, 0)), Err(9));
+    assert_eq!(rt; numbered(plan::void::<Minutes>(2, &mut table, 3)), Err(9));
+    assert_eq!(rt; numbered(plan::waiting::<Minutes>(2, &table, 5)), Err(9));
+    assert_eq!(rt; numbered(plan::waiting::<Minutes>(3, &table, 9)), Err(4));
     Ok(())
 }
 
@@ -157,18 +143,21 @@ fn given_totals_are_checked(rt: HostRuntime) -> Result<(), Fail> {
     let beyond = [None, time(1_000_000_001), None, time(0), None];
     let mut finishes: Times = [time(1); EVENTS];
     assert_eq!(rt;
-        number(plan::finish::<Minutes>(2, &table, &beyond, &mut finishes)),
-        12
+        numbered(plan::finish::<Minutes>(2, &table, &beyond, &mut finishes)),
+        Err(12)
     );
     assert_eq!(rt; minutes_at(&finishes, 2), Some(1));
     assert_eq!(rt;
-        number(plan::backward::<Minutes>(2, &table, &starts, &mut finishes)),
-        12
+        numbered(plan::backward::<Minutes>(2, &table, &starts, &mut finishes)),
+        Err(12)
     );
-    assert_eq!(rt; number(plan::check::<Minutes>(2, &table, &starts)), 12);
     assert_eq!(rt;
-        number(plan::finish::<Minutes>(2, &table, &starts, &mut finishes)),
-        0
+        numbered(plan::check::<Minutes>(2, &table, &starts)),
+        Err(12)
+    );
+    assert_eq!(rt;
+        numbered(plan::finish::<Minutes>(2, &table, &starts, &mut finishes)),
+        Ok(())
     );
     assert_eq!(rt; minutes_at(&finishes, 2), Some(1_000_000_005));
     Ok(())
@@ -180,8 +169,8 @@ fn places_past_the_events_are_kept(rt: HostRuntime) -> Result<(), Fail> {
     let starts = [None, time(10), None, time(30), None];
     let mut finishes = [time(8); 7];
     assert_eq!(rt;
-        number(plan::finish::<Minutes>(2, &table, &starts, &mut finishes)),
-        0
+        numbered(plan::finish::<Minutes>(2, &table, &starts, &mut finishes)),
+        Ok(())
     );
     assert_eq!(rt; minutes_at(&finishes, 5), Some(8));
     assert_eq!(rt; minutes_at(&finishes, 6), Some(8));
@@ -191,13 +180,10 @@ fn places_past_the_events_are_kept(rt: HostRuntime) -> Result<(), Fail> {
 #[test]
 fn faults_name_their_layer(rt: HostRuntime) -> Result<(), Fail> {
     assert_eq!(rt; PlanFault::Stages.layer(), Layer::Plan);
-    let fault = Minutes::make_lag(&[1, 2]);
-    match fault {
-        Ok(_) => Err(Fail::new("two numbers made a lag")),
-        Err(inner) => {
-            assert_eq!(rt; PlanFault::Mark(inner).number(), 10);
-            assert_eq!(rt; PlanFault::Mark(inner).layer(), Layer::Mark);
-            Ok(())
-        }
-    }
+    let inner = Minutes::make_lag(&[1, 2])
+        .err()
+        .ok_or("two numbers made a lag")?;
+    assert_eq!(rt; PlanFault::Mark(inner).number(), 10);
+    assert_eq!(rt; PlanFault::Mark(inner).layer(), Layer::Mark);
+    Ok(())
 }

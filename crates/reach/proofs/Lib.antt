@@ -1,3 +1,3 @@
 pub mod Answered
-pub mod Ticking
-pub mod Masks
+pub mod Following
+pub mod Setting

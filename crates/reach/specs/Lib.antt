@@ -1,3 +1,3 @@
 pub mod Waiting
-pub mod Ticks
+pub mod Masks
 pub mod Calls

@@ -48,10 +48,6 @@ AtLeast-trans w None (Some y) (Some z) d e h k = absurd h
 AtLeast-trans w (Some x) (Some y) (Some z) d e h k = NotBefore-trans x y z (d ∙ sym e) h k
 
 -- at least a row, so there is a row
-pub AtLeast-some : (p : Option Row) (y : Row) → AtLeast p (Some y) → (x : Row) × (p ≡ Some x) × NotBefore x y
-AtLeast-some None y h = absurd h
-AtLeast-some (Some x) y h = (x, refl, h)
-
 pub below_not_at_least : (o p : Option Row) → Below o p → AtLeast o p → ⊥
 below_not_at_least o None b h = b
 below_not_at_least None (Some y) b h = h

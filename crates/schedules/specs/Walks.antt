@@ -1,5 +1,5 @@
 -- Walking back: from an event that the last round changed to the event that its total came from, and so on.
-use Rattle.std.specs.Prelude.{◌≡◌, ℕ, zero, suc, ◌+◌, ◌-◌, ◌<◌, List, [], ◌∷◌, Some, Option, ◌≢◌, slice_index}
+use Rattle.std.specs.Prelude.{◌≡◌, ℕ, zero, suc, ◌+◌, ◌-◌, ◌<◌, List, [], ◌∷◌, Some, Option, ◌≢◌}
 use Rattle.rows.specs.Rows.{Row, plus}
 use Rattle.schedules.specs.Plans.{Lags, Totals}
 use Rattle.schedules.specs.Rounds.{rounds, Changed}
@@ -31,7 +31,3 @@ backs p c (suc i) = p (c + suc i) ∷ backs p c i
 -- the first d events met are all different
 abbrev pub Apart : (ℕ → ℕ) → ℕ → Type 0
 Apart p d = (i j : ℕ) → i < j → j < d → p i ≢ p j
-
--- the events kept from place `base` on
-abbrev pub kept_at : List ℕ → ℕ → ℕ → ℕ
-kept_at sources base v = slice_index sources (base + v)

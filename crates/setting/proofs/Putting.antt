@@ -1,5 +1,5 @@
 -- A table with one lag put in means the lags with that lag in stead of what stood there.
-use Rattle.std.proofs.Common.{◌≡◌, ℕ, ◌*◌, ◌<◌, false, ◌&&◌, eqb, ◌⊎◌, List, [], ◌∷◌, length, get_or, take, set, Some, None, Option, sym, ap, ◌∙◌, ap₂, inl, inr}
+use Rattle.std.proofs.Common.{◌≡◌, ℕ, ◌*◌, ◌<◌, false, ◌&&◌, eqb, ◌⊎◌, List, [], ◌∷◌, length, get_or, take, set, Some, None, Option, sym, ap, ◌∙◌, ap₂, subst, inl, inr}
 use Rattle.std.proofs.lemmas.List.{set-set, set-get_or}
 use Rattle.std.proofs.lemmas.Bool.{eq-eqb, ne_eqb, and_from, and_left, and_right, cases_eq, cond-true, cond-false}
 use Rattle.std.specs.Option.{option_map}
@@ -52,6 +52,13 @@ module _ {A : Type 0} (m : ℕ) (amount : A → Row) (table : List (Option A)) (
           ∙ sym (cond-true (eqb v to && eqb u from) (Some parts) (lags amount m table v u) (and_from (eqb v to) (eqb u from) (eq-eqb v to p) (eq-eqb u from q)))
       go (inl p) (inr q) = other (λ h. q h.1) (and_right (eqb v to) (eqb u from) (ne_eqb u from q))
       go (inr p) r = other (λ h. p h.0) (and_left (eqb v to) (eqb u from) (ne_eqb v to p))
+
+  -- what the search for a loop says of the table with the lag put in, at the number of events of the call
+  pub sought_put : (w n : ℕ) (after : List (Option A)) (row loop : List ℕ) (o : Option ℕ) → m ≡ n → after ≡ set table (place m to from) (Some lag) → LoopSought w m (lags amount m after) row loop o → LoopSought w n (with_lag (lags amount n table) to from parts) row loop o
+  sought_put w n after row loop o same put h =
+      let put_in = set table (place m to from) (Some lag) in
+      let here = subst (λ t. LoopSought w m (lags amount m t) row loop o) put h in
+      subst (λ k. LoopSought w k (with_lag (lags amount k table) to from parts) row loop o) same (sought_same w m (lags amount m put_in) (with_lag (lags amount m table) to from parts) put_agrees row loop o here)
 
 -- what stood there, put back
 pub put_back : {A : Type 0} (table after back : List (Option A)) (i : ℕ) (x stood : Option A) → after ≡ set table i x → back ≡ set after i stood → stood ≡ get_or table i None → back ≡ table

@@ -7,7 +7,7 @@ ghost use Rattle.setting.specs.Calls.{SetEnds};
 use checks::{check_event, check_rows};
 use marks::kind::Mark;
 use tables::fault::PlanFault;
-use tables::layout::{lag_at, put_lag};
+use tables::layout::{Table, lag_at, put_lag};
 use views::solve::contradiction;
 
 // Makes the lag of the numbers and puts it to an event from another, in stead of what stood there. `totals` and `next` are working rows.
@@ -29,7 +29,18 @@ pub fn set<K: Mark>(
     let lag = K::make_lag(parts)?;
     let stood = lag_at::<K>(count, table, to, from);
     put_lag::<K>(count, table, to, from, Some(lag));
-    match contradiction::<K>(count, table, totals, next, loop_row) {
+    // not by `check_schedule`: what stood goes back before the fault goes up
+    let found = contradiction(
+        &Table::<K> {
+            stages,
+            count,
+            lags: table,
+        },
+        totals,
+        next,
+        loop_row,
+    );
+    match found {
         None => Ok(()),
         Some(len) => {
             put_lag::<K>(count, table, to, from, stood);

@@ -1,5 +1,5 @@
 -- What the walk back has written is a loop.
-use Rattle.std.proofs.Common.{◌≡◌, ℕ, suc, ◌-◌, ◌<◌, ◌≤◌, List, get_or, take, drop, Some, Option, sym, refl, ap, ◌∙◌, subst, arith}
+use Rattle.std.proofs.Common.{◌≡◌, ℕ, suc, ◌-◌, ◌<◌, ◌≤◌, List, get_or, take, drop, Some, sym, refl, ap, ◌∙◌, subst, arith}
 use Rattle.schedules.specs.Plans.{Lags, Loop}
 use Rattle.schedules.specs.Rounds.{everywhere}
 use Rattle.schedules.specs.Walks.{backs}
@@ -11,7 +11,7 @@ use Rattle.schedules.specs.Answers.{LoopSought}
 use Rattle.loops.specs.Trails.{back, from_in, Leads, rotated, Written}
 use Rattle.solver.specs.Steps.{RoundsEnded}
 
-module _ (w m : ℕ) (L : Lags) (net : Net w m L) (sources : List ℕ) (v : ℕ) (ended : RoundsEnded w m L sources (Some v)) where
+module _ (w m : ℕ) (L : Lags) (net : Net w m L) (sources : List (List ℕ)) (v : ℕ) (ended : RoundsEnded w m L sources (Some v)) where
   pub ended_leads : Leads m (back m sources v)
   ended_leads =
       walk_below w m L net.wide (everywhere w) (everywhere_sized w m) m (from_in sources) ended.2 (back m sources v) m (λ i h. refl) (omega arith) ended.0 net.some ended.1
@@ -46,7 +46,3 @@ module _ (w m : ℕ) (L : Lags) (net : Net w m L) (sources : List ℕ) (v : ℕ)
         let more : suc (wrote.last - wrote.first - 1) ≡ wrote.last - wrote.first = omega arith in
         let looped = subst (λ (k : ℕ). Loop w m L (rotated (wrote.last - wrote.low) (backs (back m sources v) wrote.first k))) more (loop_of (wrote.last - wrote.first - 1) more) in
         (omega arith, subst (Loop w m L) (sym (ap (λ (k : ℕ). take k after) size ∙ wrote.rotated_in.events)) looped, ap (λ (k : ℕ). drop k after) size ∙ wrote.rotated_in.rest ∙ ap (λ (k : ℕ). drop k row) (sym size))
-
--- the program's count n is the size m
-pub counted_sought : (w n m : ℕ) (L : Lags) → n ≡ m → (row after : List ℕ) (r : Option ℕ) → LoopSought w n L row after r → LoopSought w m L row after r
-counted_sought w n m L e row after r h = subst (λ (i : ℕ). LoopSought w i L row after r) e h

@@ -1,14 +1,14 @@
 -- Rows of totals that mean the totals of a round, from the start to the first round that changes nothing.
-use Rattle.std.proofs.Common.{◌≡◌, ℕ, zero, suc, ◌+◌, ◌<◌, ◌≤◌, false, List, length, get_or, set, is_some, Some, None, Option, sym, ap, ◌∙◌, subst, add-one, arith, get_or-set_other, get_or-set_same}
+use Rattle.std.proofs.Common.{◌≡◌, ℕ, suc, ◌+◌, ◌<◌, ◌≤◌, false, List, get_or, is_some, Some, None, Option, sym, ap, ◌∙◌, add-one, arith}
 use Rattle.std.specs.Option.{option_map}
 use Rattle.std.proofs.lemmas.Bool.{true≢false}
-use Rattle.rows.specs.Rows.{Row, zeros}
+use Rattle.rows.specs.Rows.{Row}
 use Rattle.schedules.specs.Plans.{Lags, Totals, Schedulable}
-use Rattle.schedules.specs.Rounds.{rounds, opening, everywhere, Settled}
+use Rattle.schedules.specs.Rounds.{rounds, opening, Settled}
 use Rattle.schedules.proofs.Changes.{opening_settles}
 use Rattle.schedules.proofs.Earliest.{settled_earliest, settled_free}
 use Rattle.schedules.proofs.Rounds.{into_same}
-use Rattle.tables.specs.Tables.{times}
+use Rattle.tables.specs.Tables.{times, Written}
 use Rattle.network.specs.Networks.{Net, SumsInside}
 use Rattle.schedules.specs.Answers.{LeastTime, LeastTimes}
 use Rattle.network.specs.Steps.{Tells, WentRound}
@@ -20,21 +20,10 @@ Alike m S R = (v : ℕ) → v < m → S v ≡ R v
 pub alike_inside : (m : ℕ) (L : Lags) (S R : Totals) → Alike m S R → SumsInside m L R → SumsInside m L S
 alike_inside m L S R same inside v u t a v_in u_in e l = inside v u t a v_in u_in (sym (same u u_in) ∙ e) l
 
--- the starts
-
-pub opening_alike : {A : Type 0} (w m : ℕ) (row : A → Row) (xs : List (Option A)) (total : A) → 1 ≤ m → m ≤ length xs → row total ≡ zeros w → ((v : ℕ) → v < m → get_or xs v None ≡ None) → Alike m (times row (set xs 0 (Some total))) (opening w)
-opening_alike w m row xs total some long z empty zero v_in =
-    ap (option_map row) (get_or-set_same xs 0 (Some total) None (omega arith)) ∙ ap (λ (r : Row). Some r) z
-opening_alike w m row xs total some long z empty (suc v) v_in =
-    ap (option_map row) (get_or-set_other xs 0 (suc v) (Some total) None (λ e. omega arith) ∙ empty (suc v) v_in)
-
-pub everywhere_alike : {A : Type 0} (w m : ℕ) (row : A → Row) (xs : List (Option A)) (total : A) → row total ≡ zeros w → ((v : ℕ) → v < m → get_or xs v None ≡ Some total) → Alike m (times row xs) (everywhere w)
-everywhere_alike w m row xs total z full v v_in = ap (option_map row) (full v v_in) ∙ ap (λ (r : Row). Some r) z
-
 -- one round more, copied back
 
-pub copied_alike : {A : Type 0} (m : ℕ) (row : A → Row) (xs ys : List (Option A)) → ((v : ℕ) → v < m → get_or ys v None ≡ get_or xs v None) → Alike m (times row ys) (times row xs)
-copied_alike m row xs ys same v v_in = ap (option_map row) (same v v_in)
+pub copied_alike : {A : Type 0} (n m : ℕ) (row : A → Row) (xs former ys : List (Option A)) → n ≡ m → Written (λ v. get_or xs v None) n former ys → Alike m (times row ys) (times row xs)
+copied_alike n m row xs former ys e copied v v_in = ap (option_map row) (copied.0 v (omega arith))
 
 module _ (m : ℕ) (L : Lags) (X S R : Totals) (from : ℕ → ℕ) (changed : Option ℕ) (k : ℕ) (same : Alike m S (rounds m L X k)) (went : WentRound m m L S R from changed) where
   pub round_alike : Alike m R (rounds m L X (suc k))
@@ -62,23 +51,12 @@ module _ (w m : ℕ) (L : Lags) (net : Net w m L) (some : 1 ≤ w) (plan : Sched
   settled_least : (k : ℕ) (S : Totals) → Alike m S (rounds m L (opening w) k) → Settled m L (opening w) k → LeastTimes w m L S
   settled_least k S same f e e_in = settled_time k f e e_in (S e) (sym (same e e_in))
 
--- the program's count n is the size m
+  module _ (k : ℕ) (S : Totals) (same : Alike m S (rounds m L (opening w) k)) where
+    -- a round that changes nothing
+    pub still_least : (R : Totals) (from : ℕ → ℕ) (changed : Option ℕ) → is_some changed ≡ false → WentRound m m L S R from changed → LeastTimes w m L S
+    still_least R from changed f went =
+        settled_least k S same (round_settled m L (opening w) S R from changed k same went (none_changed m S R changed f went.tells))
 
-pub counted_net : (w n m : ℕ) (L : Lags) → n ≡ m → Net w m L → Net w n L
-counted_net w n m L e net = subst (λ (i : ℕ). Net w i L) (sym e) net
-
-module _ (w n m : ℕ) (L : Lags) (e : n ≡ m) (net : Net w m L) (some : 1 ≤ w) (plan : Schedulable w m L) (k : ℕ) (S : Totals) (same : Alike n S (rounds n L (opening w) k)) where
-  counted_least : Settled n L (opening w) k → LeastTimes w m L S
-  counted_least f =
-      subst (λ (i : ℕ). LeastTimes w i L S) e (settled_least w n L (counted_net w n m L e net) some (subst (λ (i : ℕ). Schedulable w i L) (sym e) plan) k S same f)
-
-  -- a round that changes nothing
-  pub still_least : (R : Totals) (from : ℕ → ℕ) (changed : Option ℕ) → is_some changed ≡ false → WentRound n n L S R from changed → LeastTimes w m L S
-  still_least R from changed f went =
-      counted_least (round_settled n L (opening w) S R from changed k same went (none_changed n S R changed f went.tells))
-
-  -- as many rounds as settle any plan with a schedule
-  pub enough_least : n ≤ k + 1 → LeastTimes w m L S
-  enough_least le =
-      let counted = counted_net w n m L e net in
-      counted_least (opening_settles w n L counted.wide counted.some (subst (λ (i : ℕ). Schedulable w i L) (sym e) plan) k (omega arith))
+    -- as many rounds as settle any plan with a schedule
+    pub enough_least : m ≤ k + 1 → LeastTimes w m L S
+    enough_least le = settled_least k S same (opening_settles w m L net.wide net.some plan k (omega arith))

@@ -12,17 +12,17 @@ use rows::MOST_EVENTS;
 // Rounds from the opening alone, until one changes nothing: one fewer than there are events at the most. The totals are then the least
 // times; `next` is working memory.
 pub fn settle<N: Network>(net: &N, totals: &mut [Option<N::Kind>], next: &mut [Option<N::Kind>])
-    requires network { N.Network.sound net.now }
     requires places { (N.Network.size net.now ≤ length totals.old) × (N.Network.size net.now ≤ length next.old) }
     requires schedules { Schedulable N.Kind.Mark.wide (N.Network.size net.now) (N.Network.weight net.now) }
     ensures { LeastTimes N.Kind.Mark.wide (N.Network.size net.now) (N.Network.weight net.now) (times N.Kind.Mark.row totals.new) }
 {
     let count = net.events();
+    // of fixed size, since there is no heap
     let mut sources = [0; MOST_EVENTS];
     fill_totals(count, totals, None);
     totals[0] = Some(N::Kind::zero());
     for _done in 0..count - 1 {
-        if go_round(net, count, totals, next, &mut sources, 0).is_none() {
+        if go_round(net, totals, next, &mut sources).is_none() {
             return;
         }
         copy_totals(count, next, totals);

@@ -1,14 +1,14 @@
 // Stamps: two parts, the minute and the turn within it. Neither is converted into the other.
 #![tactic(auto)]
 
-ghost use Rattle.std.specs.Prelude.{[], ◌∷◌};
+ghost use Rattle.std.specs.Prelude.{◌≡◌, [], ◌∷◌};
 ghost use Rattle.rows.specs.Limits.{lag_limit, total_limit};
 ghost use Rattle.marks.specs.Meaning.{clamped};
 ghost use Rattle.std.proofs.Common.{rules};
 
 use marks::fault::MarkFault;
 use marks::kind::Mark;
-use marks::numbers::{add_parts, lag_part, take_parts, total_part, within_lag, within_total};
+use marks::numbers::{Limit, add_parts, take_parts};
 use std::cmp::Ordering;
 
 #[derive(Clone, Copy, Debug)]
@@ -17,10 +17,22 @@ pub struct Stamp {
     turn: i64,
 }
 
+// A type of its own, so that no lag is taken for a total.
 #[derive(Clone, Copy, Debug)]
 pub struct StampLag {
     minute: i64,
     turn: i64,
+}
+
+impl Stamp {
+    fn numbers(self) -> [i64; 2]
+        ensures { result ≡ clamped total_limit self.minute ∷ (clamped total_limit self.turn ∷ []) }
+    {
+        [
+            Limit::Total.clamp(self.minute),
+            Limit::Total.clamp(self.turn),
+        ]
+    }
 }
 
 impl Mark for Stamp {
@@ -51,24 +63,20 @@ impl Mark for Stamp {
     }
 
     fn make_lag(parts: &[i64]) -> Result<StampLag, MarkFault> {
-        if parts.len() != 2 {
-            return Err(MarkFault::NoLag);
-        }
-        let Some(minute) = within_lag(parts[0]) else {
+        let [minute, turn] = parts else {
             return Err(MarkFault::NoLag);
         };
-        let Some(turn) = within_lag(parts[1]) else {
-            return Err(MarkFault::NoLag);
-        };
+        let minute = Limit::Lag.within(*minute).ok_or(MarkFault::NoLag)?;
+        let turn = Limit::Lag.within(*turn).ok_or(MarkFault::NoLag)?;
         Ok(StampLag { minute, turn })
     }
 
     fn make_total(parts: &[i64]) -> Option<Stamp> {
-        if parts.len() != 2 {
+        let [minute, turn] = parts else {
             return None;
-        }
-        let minute = within_total(parts[0])?;
-        let turn = within_total(parts[1])?;
+        };
+        let minute = Limit::Total.within(*minute)?;
+        let turn = Limit::Total.within(*turn)?;
         Some(Stamp { minute, turn })
     }
 
@@ -88,26 +96,18 @@ impl Mark for Stamp {
         Some(Stamp { minute, turn })
     }
 
+    #[tactic(auto, using(marks::proofs::Parts::rows_ranked))]
     fn order(self, other: Stamp) -> Ordering {
-        match total_part(self.minute).cmp(&total_part(other.minute)) {
-            Ordering::Equal => total_part(self.turn).cmp(&total_part(other.turn)),
-            decided => decided,
-        }
+        self.numbers().cmp(&other.numbers())
     }
 
     fn part(self, index: usize) -> Option<i64> {
-        match index {
-            0 => Some(total_part(self.minute)),
-            1 => Some(total_part(self.turn)),
-            _ => None,
-        }
+        self.numbers().get(index).copied()
     }
 
     fn lag_part(lag: StampLag, index: usize) -> Option<i64> {
-        match index {
-            0 => Some(lag_part(lag.minute)),
-            1 => Some(lag_part(lag.turn)),
-            _ => None,
-        }
+        [Limit::Lag.clamp(lag.minute), Limit::Lag.clamp(lag.turn)]
+            .get(index)
+            .copied()
     }
 }

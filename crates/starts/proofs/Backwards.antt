@@ -1,25 +1,15 @@
 -- The earliest of the differences are the greatest starts in time.
-use Rattle.std.proofs.Common.{◌≡◌, ℕ, ◌≤◌, ◌↔◌, length, Some, None, Option, sym, refl, ap, ◌∙◌, subst, ap₂}
-use Rattle.rows.specs.Extremes.{EarliestOf, Among}
+use Rattle.std.proofs.Common.{◌≡◌, ℕ, ◌≤◌, ◌↔◌, length, Some, None, Option, sym, refl, ◌∙◌, subst, ap₂}
+use Rattle.rows.specs.Extremes.{Among}
 use Rattle.rows.specs.MaxPlus.{added, taken}
 use Rattle.rows.specs.Rows.{Row, plus, minus, Before, NotBefore}
 use Rattle.rows.proofs.Order.{NotBefore-plus, before_plus}
 use Rattle.rows.proofs.Sums.{minus_plus, length-minus}
 use Rattle.schedules.specs.Plans.{Lags, Totals}
 use Rattle.tables.specs.Tables.{start, finish}
-use Rattle.starts.specs.Starts.{InTime, Unbound, Backward}
+use Rattle.starts.specs.Starts.{Allowed, InTime, Unbound, Backward}
 use Rattle.rows.proofs.Options.{none_or_some, same_some}
-
--- a sum of two that are there
-pub added_some : (x y : Option Row) (q : Row) → added x y ≡ Some q → (a : Row) × (b : Row) × (x ≡ Some a) × (y ≡ Some b) × (plus a b ≡ q)
-added_some None y q e = none_or_some q e
-added_some (Some a) None q e = none_or_some q e
-added_some (Some a) (Some b) q e = (a, b, refl, refl, same_some (plus a b) q e)
-
-pub taken_some : (x y : Option Row) (q : Row) → taken x y ≡ Some q → (a : Row) × (b : Row) × (x ≡ Some a) × (y ≡ Some b) × (minus a b ≡ q)
-taken_some None y q e = none_or_some q e
-taken_some (Some a) None q e = none_or_some q e
-taken_some (Some a) (Some b) q e = (a, b, refl, refl, same_some (minus a b) q e)
+use Rattle.starts.proofs.Widths.{added_some, taken_some, taken_wide}
 
 -- s + a is not after d exactly when s is not after d - a
 pub not_after_sum : (w : ℕ) (d s a : Row) → length d ≡ w → length s ≡ w → length a ≡ w → NotBefore (minus d a) s → NotBefore d (plus s a)
@@ -33,17 +23,15 @@ not_after_difference w d s a wd ws wa h b =
 module _ (w n : ℕ) (L : Lags) (d y : Totals)
     (wide_d : (v : ℕ) (r : Row) → d v ≡ Some r → length r ≡ w) (wide_L : (v u : ℕ) (r : Row) → L v u ≡ Some r → length r ≡ w)
     (due : (j : ℕ) → 1 ≤ j → j ≤ n → (r : Row) × (d (finish j) ≡ Some r))
-    (starts : (k : ℕ) → 1 ≤ k → k ≤ n → EarliestOf (Among n (λ j. taken (d (finish j)) (L (finish j) (start k)))) (y (start k))) where
+    (starts : (k : ℕ) → 1 ≤ k → k ≤ n → Allowed n L d (start k) (y (start k))) where
   abbrev difference : ℕ → ℕ → Option Row
   difference k j = taken (d (finish j)) (L (finish j) (start k))
 
   wide_difference : (k j : ℕ) (q : Row) → difference k j ≡ Some q → length q ≡ w
-  wide_difference k j q e =
-      let p = taken_some (d (finish j)) (L (finish j) (start k)) q e in
-      sym (ap length p.4) ∙ length-minus p.0 p.1 w (wide_d (finish j) p.0 p.2) (wide_L (finish j) (start k) p.1 p.3)
+  wide_difference k j = taken_wide w (d (finish j)) (L (finish j) (start k)) (wide_d (finish j)) (wide_L (finish j) (start k))
 
   -- what is written at a start, where something is
-  bounded_by : (k : ℕ) (o : Option Row) → EarliestOf (Among n (difference k)) o → (r : Row) → o ≡ Some r → Among n (difference k) r × ((q : Row) → Among n (difference k) q → NotBefore q r)
+  bounded_by : (k : ℕ) (o : Option Row) → Allowed n L d (start k) o → (r : Row) → o ≡ Some r → Among n (difference k) r × ((q : Row) → Among n (difference k) q → NotBefore q r)
   bounded_by k None h r e = none_or_some r e
   bounded_by k (Some x) h r e =
       let same = same_some x r e in
@@ -73,11 +61,11 @@ module _ (w n : ℕ) (L : Lags) (d y : Totals)
       lag_or_none j j1 jn None e h = e
       lag_or_none j j1 jn (Some a) e h = let t = due j j1 jn in absurd (h (minus t.0 a) (j, j1, jn, ap₂ taken t.1 e))
 
-      to : (o : Option Row) → EarliestOf (Among n (difference k)) o → o ≡ None → Unbound n L (start k)
+      to : (o : Option Row) → Allowed n L d (start k) o → o ≡ None → Unbound n L (start k)
       to None h e j j1 jn = lag_or_none j j1 jn (L (finish j) (start k)) refl h
       to (Some r) h e j j1 jn = none_or_some r (sym e)
 
-      back : (o : Option Row) → EarliestOf (Among n (difference k)) o → Unbound n L (start k) → o ≡ None
+      back : (o : Option Row) → Allowed n L d (start k) o → Unbound n L (start k) → o ≡ None
       back None h u = refl
       back (Some r) h u =
           let a = h.0 in

@@ -1,5 +1,5 @@
 pub mod Backwards
 pub mod Filling
-pub mod Fits
+pub mod Passing
 pub mod Folds
 pub mod Widths

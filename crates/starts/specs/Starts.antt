@@ -1,14 +1,18 @@
 -- Starts, finishes and due times, over the start-to-finish lags: the lags to a finish of any stage from a start of any stage.
 use Rattle.std.specs.Prelude.{◌≡◌, ℕ, ◌≤◌, ◌↔◌, length, Some, None, Option}
 use Rattle.rows.specs.Rows.{Row, NotBefore}
-use Rattle.rows.specs.MaxPlus.{added}
-use Rattle.rows.specs.Extremes.{LatestOf, Among}
+use Rattle.rows.specs.MaxPlus.{added, taken}
+use Rattle.rows.specs.Extremes.{LatestOf, EarliestOf, Among}
 use Rattle.schedules.specs.Plans.{Lags, Totals}
 use Rattle.tables.specs.Tables.{start, finish}
 
 -- v finishes at the latest of start plus lag over the start-to-finish lags into it, or has no finish if there is none
 abbrev pub Finished : ℕ → Lags → Totals → ℕ → Option Row → Type 0
 Finished n L x v = LatestOf (Among n (λ k. added (x (start k)) (L v (start k))))
+
+-- u may start at the earliest of due time minus lag over the start-to-finish lags from it, or at any time if there is none
+abbrev pub Allowed : ℕ → Lags → Totals → ℕ → Option Row → Type 0
+Allowed n L d u = EarliestOf (Among n (λ j. taken (d (finish j)) (L (finish j) u)))
 
 -- the finishes y of the starts x
 pub record Finishes (n : ℕ) (L : Lags) (x y : Totals) : Type 0 where

@@ -1,4 +1,5 @@
 pub mod Meanings
+pub mod Passed
 pub mod Places
 pub mod TableRule
 pub mod Writing

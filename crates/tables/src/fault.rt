@@ -4,28 +4,37 @@ ghost use Rattle.tables.specs.Faults.{plan_number, plan_layer};
 ghost use Rattle.tables.specs.declared.fault.PlanFault.TheVariants.{Mark as of_mark};
 
 use marks::fault::{Layer, MarkFault};
+use thiserror::Error;
 
-#[derive(Clone, Copy, PartialEq, Eq, Debug)]
+#[derive(Clone, Copy, PartialEq, Eq, Debug, Error)]
 pub enum PlanFault {
-    // 3: the number of stages is 0 or above 31
+    // 3
+    #[error("the number of stages is 0 or above 31")]
     Stages,
-    // 4: the table has not exactly m × m places
+    // 4: m × m places for m events
+    #[error("the table has not one place for each pair of events")]
     Table,
-    // 5: a row has fewer than m places
+    // 5
+    #[error("a row has fewer places than there are events")]
     Row,
-    // 9: an event is above 2n, or a stage is 0 or above n
+    // 9: an event above 2n, or a stage that is 0 or above n, of n stages
+    #[error("no such event or stage")]
     Event,
     // a fault of the marks, whole
+    #[error("{0}")]
     Mark(MarkFault),
-    // 12: a given total is absent or beyond the limit of given totals
+    // 12
+    #[error("a given total is absent or beyond the limit of given totals")]
     Total,
-    // 13: a finish or a start without a start-to-finish lag
+    // 13
+    #[error("a finish or a start has no start-to-finish lag")]
     Unserved,
-    // 14: no schedule exists; the length of the loop in the loop row
+    // 14: the length of the loop in the loop row
+    #[error("no schedule exists: a loop of {0} events contradicts")]
     Loop(usize),
 }
 
-// A fault of the marks passes up whole.
+// A fault of the marks passes up whole. By hand, since of a derived conversion a caller's `?` does not learn which fault it makes.
 impl From<MarkFault> for PlanFault {
     ghost from_gives = { λ fault r. r ≡ of_mark fault };
 
@@ -35,6 +44,7 @@ impl From<MarkFault> for PlanFault {
 }
 
 impl PlanFault {
+    // By a match, since a case has a field: no discriminant is the number of the check.
     pub fn number(self) -> u8
         ensures { result ≡ plan_number self }
     {

@@ -1,7 +1,7 @@
 // Where lags lie: the counts of places, and the place of a pair of events.
-ghost use Rattle.std.specs.Prelude.{◌≡◌, ◌<◌, ◌≤◌, if◌then◌else◌, Some, None, slice_index_or, slice_set};
+ghost use Rattle.std.specs.Prelude.{◌≡◌, ◌*◌, ◌<◌, ◌≤◌, if◌then◌else◌, length, Some, None, slice_index_or, slice_set};
 ghost use Rattle.tables.specs.Checks.{stages_missed};
-ghost use Rattle.tables.specs.Tables.{places, place};
+ghost use Rattle.tables.specs.Tables.{events, places, place};
 
 use marks::kind::Mark;
 
@@ -28,7 +28,29 @@ pub fn place_of(count: usize, to: usize, from: usize) -> usize
     to.wrapping_mul(count).wrapping_add(from)
 }
 
-// What lies at the place of a pair.
+// A table with the number of its events, and how many stages lie within them. An event is a number below `count`, asked for where it is
+// used: a type for it would carry the table along.
+#[derive(Drop)]
+pub struct Table<'a, K: Mark> {
+    pub stages: usize,
+    pub count: usize,
+    pub lags: &'a [Option<K::Lag>],
+    ghost laid: { events stages ≤ count },
+    ghost some: { 1 ≤ count },
+    ghost few: { count ≤ 63 },
+    ghost full: { length lags.now ≡ count * count },
+}
+
+impl<'a, K: Mark> Table<'a, K> {
+    // The lag to an event from another.
+    pub fn lag(&self, to: usize, from: usize) -> Option<K::Lag>
+        ensures { to < self.now.count → from < self.now.count → result ≡ slice_index_or self.now.lags.now (place self.now.count to from) None }
+    {
+        lag_at::<K>(self.count, self.lags, to, from)
+    }
+}
+
+// What lies at the place of a pair. The pair stays two numbers, as the calls have it.
 pub fn lag_at<K: Mark>(
     count: usize,
     table: &[Option<K::Lag>],
@@ -37,11 +59,11 @@ pub fn lag_at<K: Mark>(
 ) -> Option<K::Lag>
     ensures { count ≤ 63 → to < count → from < count → result ≡ slice_index_or table.now (place count to from) None }
 {
-    let at = place_of(count, to, from);
-    if at < table.len() { table[at] } else { None }
+    *table.get(place_of(count, to, from))?
 }
 
-// Puts a lag, or none, at the place of a pair.
+// Puts a lag, or none, at the place of a pair. With the count beside the table, since a `Table` only reads; by the place, since through
+// `get_mut` it stays open what the table holds afterwards.
 pub fn put_lag<K: Mark>(
     count: usize,
     table: &mut [Option<K::Lag>],
@@ -61,9 +83,5 @@ pub fn put_lag<K: Mark>(
 pub fn time_at<K: Mark>(totals: &[Option<K>], event: usize) -> Option<K>
     ensures { result ≡ slice_index_or totals.now event None }
 {
-    if event < totals.len() {
-        totals[event]
-    } else {
-        None
-    }
+    *totals.get(event)?
 }

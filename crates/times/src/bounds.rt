@@ -3,13 +3,13 @@ ghost use Rattle.std.specs.Prelude.{min, length};
 ghost use Rattle.times.specs.Calls.{EarliestEnds, LatestEnds, SpreadEnds};
 
 use crate::copying::{inner_of, turn_back};
-use checks::{check_event, check_rows};
+use checks::{check_event, read_rows};
 use marks::kind::Mark;
 use network::rounds::copy_totals;
 use tables::fault::PlanFault;
 use tables::layout::time_at;
 use turned::Turned;
-use views::solve::{contradiction, greatest_times, least_times};
+use views::solve::{check_schedule, greatest_times, least_times};
 
 // Writes for each event the least time over all schedules, or free where schedules have it before every row. `totals` and `next` are
 // working rows.
@@ -27,17 +27,16 @@ pub fn earliest<K: Mark>(
         .len()
         .min(totals.len())
         .min(next.len().min(loop_row.len()));
-    let count = check_rows(stages, table.len(), shortest)?;
-    if let Some(len) = contradiction::<K>(count, table, totals, next, loop_row) {
-        return Err(PlanFault::Loop(len));
-    }
-    least_times::<K>(count, table, totals, next);
-    copy_totals(count, totals, answer);
+    let table = read_rows::<K>(stages, table, shortest)?;
+    check_schedule(&table, totals, next, loop_row)?;
+    least_times(&table, totals, next);
+    copy_totals(table.count, totals, answer);
     Ok(())
 }
 
 // Writes for each event the greatest time over all schedules, or free where schedules have it after every row: the least times of the
-// reversed plan over turned marks. The four rows behind the answer are working rows.
+// reversed plan over turned marks. The four rows behind the answer are working rows. One function of it and
+// `earliest` would take all rows and answer from totals of two kinds.
 pub fn latest<K: Mark>(
     stages: usize,
     table: &[Option<K::Lag>],
@@ -55,12 +54,10 @@ pub fn latest<K: Mark>(
         .min(totals.len())
         .min(next.len().min(loop_row.len()));
     let shortest = plain.min(turned.len().min(turned_next.len()));
-    let count = check_rows(stages, table.len(), shortest)?;
-    if let Some(len) = contradiction::<K>(count, table, totals, next, loop_row) {
-        return Err(PlanFault::Loop(len));
-    }
-    greatest_times::<K>(count, table, turned, turned_next);
-    turn_back(count, turned, answer);
+    let table = read_rows::<K>(stages, table, shortest)?;
+    check_schedule(&table, totals, next, loop_row)?;
+    greatest_times(&table, turned, turned_next);
+    turn_back(table.count, turned, answer);
     Ok(())
 }
 
@@ -79,12 +76,10 @@ pub fn spread<K: Mark>(
 {
     let plain = totals.len().min(next.len().min(loop_row.len()));
     let shortest = plain.min(turned.len().min(turned_next.len()));
-    let count = check_rows(stages, table.len(), shortest)?;
+    let table = read_rows::<K>(stages, table, shortest)?;
     check_event(stages, event)?;
-    if let Some(len) = contradiction::<K>(count, table, totals, next, loop_row) {
-        return Err(PlanFault::Loop(len));
-    }
-    least_times::<K>(count, table, totals, next);
-    greatest_times::<K>(count, table, turned, turned_next);
+    check_schedule(&table, totals, next, loop_row)?;
+    least_times(&table, totals, next);
+    greatest_times(&table, turned, turned_next);
     Ok((time_at(totals, event), inner_of(time_at(turned, event))))
 }

@@ -15,13 +15,14 @@ pub(crate) fn turn_back<K: Mark>(
     requires { (count ≤ length turned.now) × (count ≤ length totals.old) }
     ensures { Written (λ e. option_map (λ t. t.inner) (slice_index_or turned.now e None)) count totals.old totals.new }
 {
-    for event in 0..count {
-        totals[event] = inner_of(turned[event]);
+    // by the event: a zip of both rows keeps no count of the places written
+    for (event, total) in totals[..count].iter_mut().enumerate() {
+        *total = inner_of(turned[event]);
     }
 }
 
 pub(crate) fn inner_of<K: Mark>(total: Option<Turned<K>>) -> Option<K>
     ensures { result ≡ option_map (λ t. t.inner) total }
 {
-    Some(total?.inner)
+    total.map(|turned| turned.inner)
 }

@@ -3,21 +3,20 @@
 
 mod minutes_plan;
 mod nearest_plan;
+mod shared;
 mod show;
 mod stamps_plan;
 
 use marks::kind::Mark;
 use minutes::{Minutes, MinutesLag};
 use plan::PlanFault;
-use show::{show_outcome, show_refusal, show_times};
+use shared::{lay_lags, time};
+use show::{show_line, show_outcome, show_refusal, show_times};
 use std::io;
-use tables::layout::{put_lag, time_at};
 
 const STAGES: usize = 4;
 
 const EVENTS: usize = 9;
-
-const PLACES: usize = 81;
 
 const STARTS: [usize; STAGES] = [1, 3, 5, 7];
 
@@ -37,30 +36,21 @@ const LAGS: [(usize, usize, i64); 10] = [
     (8, 7, 12),
 ];
 
-const DUE: [(usize, i64); STAGES] = [(2, 14), (4, 11), (6, 16), (8, 15)];
-
-fn lay_lags(table: &mut [Option<MinutesLag>]) {
-    for (to, from, minutes) in LAGS {
-        if let Ok(lag) = Minutes::make_lag(&[minutes]) {
-            put_lag::<Minutes>(EVENTS, table, to, from, Some(lag));
-        }
-    }
-}
-
-fn write_due(due: &mut [Option<Minutes>]) {
-    for (event, minutes) in DUE {
-        if event < due.len() {
-            due[event] = Minutes::make_total(&[minutes]);
-        }
-    }
-}
-
 // Backward from the due times, and forward again from the starts that it gives.
 fn work_back(rt: &HostRuntime, table: &[Option<MinutesLag>]) -> io::Result<()> {
-    let mut due = [None; EVENTS];
+    let due = [
+        None,
+        None,
+        time(14),
+        None,
+        time(11),
+        None,
+        time(16),
+        None,
+        time(15),
+    ];
     let mut starts = [None; EVENTS];
     let mut finishes = [None; EVENTS];
-    write_due(&mut due);
     println!(rt; "work back from the due times to the latest starts")?;
     show_times(rt, "due", &due, &FINISHES)?;
     show_outcome(
@@ -77,18 +67,15 @@ fn work_back(rt: &HostRuntime, table: &[Option<MinutesLag>]) -> io::Result<()> {
     check_times(rt, table, &starts, &finishes)
 }
 
-// The starts and the finishes in one row.
+// The starts and the finishes in one row, after the opening.
 fn join_times(
     starts: &[Option<Minutes>],
     finishes: &[Option<Minutes>],
     times: &mut [Option<Minutes>],
 ) {
-    for event in 1..times.len() {
-        times[event] = if event % 2 == 1 {
-            time_at(starts, event)
-        } else {
-            time_at(finishes, event)
-        };
+    let pairs = starts.iter().zip(finishes);
+    for (time, (start, finish)) in times.iter_mut().zip(pairs).skip(1) {
+        *time = start.or(*finish);
     }
 }
 
@@ -103,7 +90,7 @@ fn check_times(
     join_times(starts, finishes, &mut times);
     println!(rt; "check the starts and finishes")?;
     show_check(rt, plan::check::<Minutes>(STAGES, table, &times))?;
-    times[4] = Minutes::make_total(&[10]);
+    times[4] = time(10);
     println!(rt; "check them with stage 2 finished at 10")?;
     show_check(rt, plan::check::<Minutes>(STAGES, table, &times))
 }
@@ -124,13 +111,8 @@ fn show_waiting(rt: &HostRuntime, table: &[Option<MinutesLag>], event: usize) ->
     println!(rt; "who waits on event {event}")?;
     match plan::waiting::<Minutes>(STAGES, table, event) {
         Ok((mask, count)) => {
-            print!(rt; "  {count} events:")?;
-            for other in 0..EVENTS {
-                if (mask >> other) & 1 == 1 {
-                    print!(rt; " {other}")?;
-                }
-            }
-            println!(rt; "")
+            let waiting = (0..EVENTS).filter(|other| mask >> other & 1 == 1);
+            show_line(rt, format_args!("{count} events"), waiting)
         }
         Err(fault) => show_refusal(rt, fault),
     }
@@ -148,10 +130,10 @@ fn edit(rt: &HostRuntime, table: &mut [Option<MinutesLag>]) -> io::Result<()> {
 }
 
 fn main(rt: HostRuntime) -> io::Result<()> {
-    let mut table = [None; PLACES];
+    let mut table = [None; EVENTS * EVENTS];
     println!(rt; "open a plan of {STAGES} stages")?;
     show_outcome(&rt, plan::open::<Minutes>(STAGES, &mut table))?;
-    lay_lags(&mut table);
+    lay_lags(EVENTS, &mut table, &LAGS);
     work_back(&rt, &table)?;
     edit(&rt, &mut table)?;
     println!(rt; "drop the lag to event 9 from event 0")?;

@@ -1,8 +1,9 @@
 // A plan of two stages in minutes, built by set: its earliest and latest times, and a due date tightened until it contradicts.
-use crate::show::{show_outcome, show_refusal, show_set, show_times};
-use marks::kind::Mark;
+use crate::shared::set_lag;
+use crate::show::{show_outcome, show_refusal, show_times};
 use minutes::{Minutes, MinutesLag};
 use std::io;
+use turned::Turned;
 
 const STAGES: usize = 2;
 
@@ -21,110 +22,109 @@ const LAGS: [(usize, usize, i64); 6] = [
     (0, 4, -300),
 ];
 
-fn set_lag(
-    rt: &HostRuntime,
-    table: &mut [Option<MinutesLag>],
-    to: usize,
-    from: usize,
-    minutes: i64,
-) -> io::Result<()> {
-    let mut totals = [None; EVENTS];
-    let mut next = [None; EVENTS];
-    let mut loop_row = [0; EVENTS];
-    println!(rt; "set {minutes} minutes to event {to} from event {from}")?;
-    let outcome = plan::set::<Minutes>(
-        STAGES,
-        table,
-        to,
-        from,
-        &[minutes],
-        &mut totals,
-        &mut next,
-        &mut loop_row,
-    );
-    show_set(rt, outcome, &loop_row)
+// The rows that the calls work in, of one kind: an array of a type parameter gets no proof.
+#[derive(Default, Drop)]
+struct Work {
+    totals: [Option<Minutes>; EVENTS],
+    next: [Option<Minutes>; EVENTS],
+    turned: [Option<Turned<Minutes>>; EVENTS],
+    turned_next: [Option<Turned<Minutes>>; EVENTS],
+    loop_row: [usize; EVENTS],
 }
 
-fn show_earliest(rt: &HostRuntime, table: &[Option<MinutesLag>]) -> io::Result<()> {
-    let mut times = [None; EVENTS];
-    let mut totals = [None; EVENTS];
-    let mut next = [None; EVENTS];
-    let mut loop_row = [0; EVENTS];
-    println!(rt; "earliest times")?;
-    let outcome = plan::earliest::<Minutes>(
-        STAGES,
-        table,
-        &mut times,
-        &mut totals,
-        &mut next,
-        &mut loop_row,
-    );
-    show_outcome(rt, outcome)?;
-    show_times(rt, "events 0 to 4", &times, &ALL)
-}
-
-fn show_latest(rt: &HostRuntime, table: &[Option<MinutesLag>]) -> io::Result<()> {
-    let mut times = [None; EVENTS];
-    let mut totals = [None; EVENTS];
-    let mut next = [None; EVENTS];
-    let mut turned = [None; EVENTS];
-    let mut turned_next = [None; EVENTS];
-    let mut loop_row = [0; EVENTS];
-    println!(rt; "latest times")?;
-    let outcome = plan::latest::<Minutes>(
-        STAGES,
-        table,
-        &mut times,
-        &mut totals,
-        &mut next,
-        &mut turned,
-        &mut turned_next,
-        &mut loop_row,
-    );
-    show_outcome(rt, outcome)?;
-    show_times(rt, "events 0 to 4", &times, &ALL)
-}
-
-fn show_spread(rt: &HostRuntime, table: &[Option<MinutesLag>], event: usize) -> io::Result<()> {
-    let mut totals = [None; EVENTS];
-    let mut next = [None; EVENTS];
-    let mut turned = [None; EVENTS];
-    let mut turned_next = [None; EVENTS];
-    let mut loop_row = [0; EVENTS];
-    println!(rt; "spread of event {event}")?;
-    let outcome = plan::spread::<Minutes>(
-        STAGES,
-        table,
-        event,
-        &mut totals,
-        &mut next,
-        &mut turned,
-        &mut turned_next,
-        &mut loop_row,
-    );
-    match outcome {
-        Ok((least, greatest)) => show_times(rt, "earliest and latest", &[least, greatest], &[0, 1]),
-        Err(fault) => show_refusal(rt, fault),
+impl Work {
+    fn set(
+        &mut self,
+        rt: &HostRuntime,
+        table: &mut [Option<MinutesLag>],
+        to: usize,
+        from: usize,
+        minutes: i64,
+    ) -> io::Result<()> {
+        println!(rt; "set {minutes} minutes to event {to} from event {from}")?;
+        set_lag::<Minutes>(
+            rt,
+            STAGES,
+            table,
+            to,
+            from,
+            &[minutes],
+            &mut self.totals,
+            &mut self.next,
+        )
     }
-}
 
-fn set_lags(rt: &HostRuntime, table: &mut [Option<MinutesLag>]) -> io::Result<()> {
-    for (to, from, minutes) in LAGS {
-        set_lag(rt, table, to, from, minutes)?;
+    fn show_earliest(&mut self, rt: &HostRuntime, table: &[Option<MinutesLag>]) -> io::Result<()> {
+        let mut times = [None; EVENTS];
+        println!(rt; "earliest times")?;
+        let outcome = plan::earliest::<Minutes>(
+            STAGES,
+            table,
+            &mut times,
+            &mut self.totals,
+            &mut self.next,
+            &mut self.loop_row,
+        );
+        show_outcome(rt, outcome)?;
+        show_times(rt, "events 0 to 4", &times, &ALL)
     }
-    Ok(())
+
+    fn show_latest(&mut self, rt: &HostRuntime, table: &[Option<MinutesLag>]) -> io::Result<()> {
+        let mut times = [None; EVENTS];
+        println!(rt; "latest times")?;
+        let outcome = plan::latest::<Minutes>(
+            STAGES,
+            table,
+            &mut times,
+            &mut self.totals,
+            &mut self.next,
+            &mut self.turned,
+            &mut self.turned_next,
+            &mut self.loop_row,
+        );
+        show_outcome(rt, outcome)?;
+        show_times(rt, "events 0 to 4", &times, &ALL)
+    }
+
+    fn show_spread(
+        &mut self,
+        rt: &HostRuntime,
+        table: &[Option<MinutesLag>],
+        event: usize,
+    ) -> io::Result<()> {
+        println!(rt; "spread of event {event}")?;
+        let outcome = plan::spread::<Minutes>(
+            STAGES,
+            table,
+            event,
+            &mut self.totals,
+            &mut self.next,
+            &mut self.turned,
+            &mut self.turned_next,
+            &mut self.loop_row,
+        );
+        match outcome {
+            Ok((least, greatest)) => {
+                show_times(rt, "earliest and latest", &[least, greatest], &[0, 1])
+            }
+            Err(fault) => show_refusal(rt, fault),
+        }
+    }
 }
 
 pub fn walk(rt: &HostRuntime) -> io::Result<()> {
-    let mut table = [None; 25];
+    let mut table = [None; EVENTS * EVENTS];
+    let mut work = Work::default();
     println!(rt; "open a plan of {STAGES} stages")?;
     show_outcome(rt, plan::open::<Minutes>(STAGES, &mut table))?;
-    show_earliest(rt, &table)?;
-    set_lags(rt, &mut table)?;
-    show_earliest(rt, &table)?;
-    show_latest(rt, &table)?;
-    show_spread(rt, &table, 4)?;
-    set_lag(rt, &mut table, 0, 4, -225)?;
-    set_lag(rt, &mut table, 0, 4, -224)?;
-    show_latest(rt, &table)
+    work.show_earliest(rt, &table)?;
+    for (to, from, minutes) in LAGS {
+        work.set(rt, &mut table, to, from, minutes)?;
+    }
+    work.show_earliest(rt, &table)?;
+    work.show_latest(rt, &table)?;
+    work.show_spread(rt, &table, 4)?;
+    work.set(rt, &mut table, 0, 4, -225)?;
+    work.set(rt, &mut table, 0, 4, -224)?;
+    work.show_latest(rt, &table)
 }

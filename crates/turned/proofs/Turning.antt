@@ -8,18 +8,17 @@ use Rattle.rows.specs.Limits.{total_limit}
 use Rattle.rows.proofs.Limits.{relations}
 use Rattle.rows.proofs.Order.{before_negated}
 use Rattle.rows.proofs.Sums.{cons≡, negated-negated, Within-negated}
-use Rattle.marks.specs.Meaning.{Makes, part_at}
+use Rattle.marks.specs.Meaning.{Makes, TotalOf, part_at}
+use Rattle.turned.specs.declared.Turned.{Turned}
+use Rattle.std.specs.Option.{option_map}
 use Rattle.turned.specs.Opposites.{all_opposite}
 use Rattle.marks.proofs.Parts.{Inside}
 
 -- the answers of sums and of the order
 
-pub total_turned : (limit : ℕ) (x y r : Row) → negated x ≡ y → Within limit x × (r ≡ x) → Within limit y × (negated r ≡ y)
-total_turned limit x y r e h = (subst (Within limit) e (Within-negated limit x h.0), ap negated h.1 ∙ e)
-
-pub beyond_turned : (limit : ℕ) (x y : Row) → negated x ≡ y → (Within limit x → ⊥) → Within limit y → ⊥
-beyond_turned limit x y e h k =
-    h (subst (Within limit) (ap negated (sym e) ∙ negated-negated x) (Within-negated limit y k))
+pub sum_turned : {T : Type 0} (row : T → Row) (x y : Row) (o : Option T) (r : Option (Turned T)) → r ≡ option_map (λ (t : T). record { inner = t }) o → negated x ≡ y → TotalOf row x o → TotalOf (λ (t : Turned T). negated (row t.inner)) y r
+sum_turned row x y (Some t) r m e h = rw m (subst (Within total_limit) e (Within-negated total_limit x h.0), ap negated h.1 ∙ e)
+sum_turned row x y None r m e h = rw m (λ k. h (subst (Within total_limit) (ap negated (sym e) ∙ negated-negated x) (Within-negated total_limit y k)))
 
 pub ranked_turned : (r : Ordering) (x y : Row) → MatchOrdering r (Before y x) (y ≡ x) (Before x y) → MatchOrdering r (Before (negated x) (negated y)) (negated x ≡ negated y) (Before (negated y) (negated x))
 ranked_turned Less x y h = before_negated y x h

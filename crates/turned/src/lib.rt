@@ -17,12 +17,14 @@ pub struct Turned<M> {
     pub inner: M,
 }
 
-// The numbers with every sign changed, and noughts behind them. The least of all numbers becomes the greatest: both are far beyond the limits.
+// The numbers with every sign changed, and noughts behind them: eight places, since a library has no heap.
+// The least of all numbers becomes the greatest: both are far beyond the limits.
 fn opposites(parts: &[i64]) -> [i64; 8]
     requires { length parts.now ≤ 8 }
     ensures { take (length parts.now) result ≡ all_opposite parts.now }
 {
     let mut turned = [0; 8];
+    // by the place: over the two zipped, what the function promises was not proved
     for (i, part) in parts.iter().enumerate() {
         turned[i] = part.saturating_neg();
     }
@@ -75,13 +77,11 @@ impl<M: Mark> Mark for Turned<M> {
     }
 
     fn add(self, lag: M::Lag) -> Option<Turned<M>> {
-        let inner = self.inner.take(lag)?;
-        Some(Turned { inner })
+        self.inner.take(lag).map(|inner| Turned { inner })
     }
 
     fn take(self, lag: M::Lag) -> Option<Turned<M>> {
-        let inner = self.inner.add(lag)?;
-        Some(Turned { inner })
+        self.inner.add(lag).map(|inner| Turned { inner })
     }
 
     fn order(self, other: Turned<M>) -> Ordering {

@@ -23,15 +23,13 @@ pub fn turned_twice<M: Mark>(total: M) -> Turned<Turned<M>>
 pub fn add_turned_twice<M: Mark>(total: M, lag: M::Lag) -> Option<M>
     ensures { Added M.Mark total lag result }
 {
-    let sum = turned_twice(total).add(lag)?;
-    Some(sum.inner.inner)
+    turned_twice(total).add(lag).map(|sum| sum.inner.inner)
 }
 
 pub fn take_turned_twice<M: Mark>(total: M, lag: M::Lag) -> Option<M>
     ensures { Taken M.Mark total lag result }
 {
-    let rest = turned_twice(total).take(lag)?;
-    Some(rest.inner.inner)
+    turned_twice(total).take(lag).map(|rest| rest.inner.inner)
 }
 
 pub fn order_turned_twice<M: Mark>(total: M, other: M) -> Ordering

@@ -1,3 +1,2 @@
 pub mod Mirroring
 pub mod Solving
-pub mod Views

@@ -1,12 +1,14 @@
-use Rattle.std.proofs.Common.{ℕ, refl, subst, inl, inr, rules}
-use Rattle.tables.specs.Tables.{start, finish, OfStage, Cleared}
-use Rattle.edits.proofs.Clearing.{Cleared-two}
+use Rattle.std.proofs.Common.{◌+◌, sym, subst, arith}
+use Rattle.std.proofs.lemmas.Bool.Decides.{not_from_Decides}
+use Rattle.edits.proofs.Voiding.{VoidedBelow, voided_set, voided_skip}
 use Rattle.edits.proofs.void.Goals as goal
+use Rattle.edits.proofs.void.Goals.{then-touches, else-touches}
 
-pub returns : goal.returns
-returns g c =
-    let laid = c.in_ok-count.ensures.1 in (
-      search rules,
-      subst (λ (m : ℕ). Cleared m (OfStage c.args.stage) c.args.table.now c.clear_event-2.new.table) laid.count
-          (Cleared-two c.in_ok-count.count (start c.args.stage) (finish c.args.stage) (OfStage c.args.stage) c.args.table.now c.clear_event.new.table c.clear_event-2.new.table (λ v h. h) (inl refl) (inr refl) c.clear_event.ensures c.clear_event-2.ensures),
-    )
+pub loop-at-preserved : goal.loop-at-preserved
+loop-at-preserved g c =
+    let m = c.in_ok-count.count in
+    let table = c.args.table.now in
+    elim c.if-touches.branch [
+      | then-touches w ↦ subst (VoidedBelow c.args.stage m (c.loop-at.at + 1) table) (sym w.table-is) (voided_set c.args.stage m c.loop-at.at table c.loop-at.table c.loop-at.invariant (omega arith) (c.touches.ensures.0 w.if-touches.true))
+      | else-touches w ↦ subst (VoidedBelow c.args.stage m (c.loop-at.at + 1) table) (sym w.table-is) (voided_skip c.args.stage m c.loop-at.at table c.loop-at.table c.loop-at.invariant c.index-table-at.result (not_from_Decides c.touches.result c.touches.ensures w.if-touches.false))
+    ]

@@ -1,32 +1,20 @@
-use Rattle.std.proofs.Common.{◌<◌, length, arith}
-use Rattle.std.proofs.lemmas.List.{length-set}
-use Rattle.loops.proofs.Backing.{Walking-none, walking_short, walked_holds, walked_met, walking_more}
+use Rattle.std.proofs.Common.{rules, arith}
+use Rattle.loops.proofs.Backing.{met_at, apart_more, apart_less}
 use Rattle.loops.proofs.walk_back.Goals as goal
+use Rattle.loops.proofs.walk_back.Goals.{else-loop-last-test, then-loop-last-test+in_default+else-last-count}
 
-pub overflow_sub-from : goal.overflow_sub-from
-overflow_sub-from c = omega (arith, walking_short _ _ _ _ _ c.requires.leads c.loop-first.invariant)
+pub returns-in-Some-clause-met : goal.returns-in-Some-clause-met
+returns-in-Some-clause-met c =
+    met_at _ _ _ _ c.loop-last.last _ (omega arith) (omega arith) (omega arith) c.loop-last.invariant.0 c.from-from.ensures c.loop-last.invariant.1 _ c.in-Some.ensures
 
-pub overflow_sub-from-in-loop-first : goal.overflow_sub-from-in-loop-first
-overflow_sub-from-in-loop-first c = omega (arith, walking_short _ _ _ _ _ c.requires.leads c.loop-first.invariant)
+pub loop-last-preserved : goal.loop-last-preserved
+loop-last-preserved c =
+    (search rules, apart_more _ _ _ _ c.loop-last.last _ (omega arith) (omega arith) (omega arith) c.loop-last.invariant.0 c.from-from.ensures c.loop-last.invariant.1 c.in_default.ensures)
 
-pub bounds-path-steps-in-loop-first : goal.bounds-path-steps-in-loop-first
-bounds-path-steps-in-loop-first c = omega (arith, walking_short _ _ _ _ _ c.requires.leads c.loop-first.invariant, simp length-set at c.loop-first.auto.path)
-
-pub returns-in-Some : goal.returns-in-Some
-returns-in-Some c =
-    let room : c.args.count < length c.loop-first.path = omega (arith, simp length-set at c.loop-first.auto.path) in
-    record {
-      met = walked_met _ _ _ _ _ c.requires.leads c.loop-first.invariant room c.in-Some.first c.in-Some.ensures;
-      holds = walked_holds _ _ _ _ _ c.requires.leads c.loop-first.invariant room;
-    }
-
-pub loop-first-smaller : goal.loop-first-smaller
-loop-first-smaller c = omega (arith, walking_short _ _ _ _ _ c.requires.leads c.loop-first.invariant)
-
-pub loop-first-init : goal.loop-first-init
-loop-first-init c = Walking-none _ _ _ _ (omega arith)
-
-pub loop-first-preserved : goal.loop-first-preserved
-loop-first-preserved c =
-    let room : c.args.count < length c.loop-first.path = omega (arith, simp length-set at c.loop-first.auto.path) in
-    walking_more _ _ _ _ _ c.requires.leads c.loop-first.invariant room c.in_default.ensures
+pub unreachable-requires : goal.unreachable-requires
+unreachable-requires c =
+    elim c.loop-last-test.branch [
+      | else-loop-last-test w ↦ absurd (omega (arith, c.requires.leads 0 (omega arith)))
+      | then-loop-last-test+in_default+else-last-count w ↦
+          apart_less _ _ c.loop-last.last c.requires.leads (omega arith) (apart_more _ _ _ _ c.loop-last.last _ (omega arith) (omega arith) (omega arith) c.loop-last.invariant.0 w.from-from.ensures c.loop-last.invariant.1 w.in_default.ensures)
+    ]

@@ -1,9 +1,8 @@
 use Rattle.std.proofs.Common.{◌-◌}
-use Rattle.loops.proofs.Backing.{Walking}
+use Rattle.schedules.specs.Walks.{Apart}
+use Rattle.loops.specs.Trails.{back, Holds}
 use Rattle.loops.proofs.walk_back.Given as goal
 
-abbrev pub invariant-loop-first : goal.invariant-loop-first
-invariant-loop-first l = Walking l.count l.sources l.path l.event l.steps
-
-abbrev pub decreases-loop-first : goal.decreases-loop-first
-decreases-loop-first l = l.count - l.steps
+abbrev pub invariant-loop-last : goal.invariant-loop-last
+invariant-loop-last l =
+    Holds l.path (back l.count l.rounds l.event) (l.last - 1) × Apart (back l.count l.rounds l.event) l.last

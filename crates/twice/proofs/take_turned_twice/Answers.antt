@@ -1,9 +1,11 @@
-use Rattle.std.proofs.Common.{Some, ap}
+use Rattle.std.proofs.Common.{◌≡◌, ap, rules}
 use Rattle.rows.specs.Rows.{Row, minus}
+use Rattle.twice.specs.Twice.{restored}
 use Rattle.twice.proofs.TurningTwice.{total_twice}
 use Rattle.twice.proofs.take_turned_twice.Goals as goal
 
 pub returns : goal.returns
 returns g c =
     let e = ap (λ (x : Row). minus x (g.M.Mark.amount c.args.lag)) c.turned_twice.ensures.meaning in
-    total_twice g.M.Mark _ _ (Some c.in_ok-rest.rest) e c.in_ok-rest.ensures
+    let m : c.map.result ≡ restored c.take.result = search rules in
+    rw m (total_twice g.M.Mark _ _ c.take.result e c.take.ensures)

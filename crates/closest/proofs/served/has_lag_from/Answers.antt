@@ -1,14 +1,19 @@
-use Rattle.std.proofs.Common.{◌≡◌, ℕ, subst, arith}
-use Rattle.tables.specs.Tables.{events, lags}
-use Rattle.closest.specs.Served.{lag_from}
-use Rattle.closest.proofs.Serving.{from_step}
+use Rattle.std.proofs.Common.{rules, ◌≡◌, ℕ, suc, ◌+◌, ◌*◌, ◌<◌, Bool, true, false, is_some, get_or, None, refl, ap, ◌∙◌, arith}
+use Rattle.std.proofs.lemmas.Iterator.{YieldsList-from_range, cases_from_any}
+use Rattle.schedules.specs.Plans.{Lags}
+use Rattle.tables.specs.Tables.{finish, lags, place}
+use Rattle.closest.proofs.Serving.{any_is, some_mapped}
 use Rattle.closest.proofs.served.has_lag_from.Goals as goal
-
-pub loop-k-preserved : goal.loop-k-preserved
-loop-k-preserved g c =
-    from_step g.K.Mark.amount (events c.args.stages) c.args.table.now c.loop-k.k c.loop-k.found c.is_some-found.result c.lag_at.result c.is_some-found.ensures c.args.from (c.lag_at.ensures (omega (arith, c.requires.0)) (omega arith) c.requires.1) c.loop-k.invariant
 
 pub returns : goal.returns
 returns g c =
-    let end : c.loop-k.k ≡ c.args.stages = omega arith in
-    subst (λ (i : ℕ). c.loop-k.found ≡ lag_from (lags g.K.Mark.amount (events c.args.stages) c.args.table.now) c.args.from i) end c.loop-k.invariant
+    let n = c.args.table.now.stages in
+    let table = c.args.table.now in
+    let L : Lags = lags g.K.Mark.amount table.count table.lags.now in
+    let p : ℕ → Bool = λ j. is_some (L (finish j) c.args.from) in
+    let test : (j : ℕ) → p (suc j) ≡ is_some (get_or table.lags.now (place table.count (2 * j + 2) c.args.from) None) = λ j.
+    let at : finish (suc j) ≡ 2 * j + 2 = omega arith in
+    ap (λ (i : ℕ). is_some (L i c.args.from)) at ∙ some_mapped g.K.Mark.amount (get_or table.lags.now (place table.count (2 * j + 2) c.args.from) None) in
+    any_is n p c.any.result (cases_from_any _ _ c.any.result (λ k. k < n → p (suc k) ≡ true) (λ k. k < n → p (suc k) ≡ false) c.any.ensures.ran (YieldsList-from_range 0 n n refl (omega arith))
+    (λ k q h l. let to : 2 * k + 2 < table.count = omega (arith, table.laid) in test k ∙ search rules)
+    (λ k q h. (search rules, λ l. let to : 2 * k + 2 < table.count = omega (arith, table.laid) in test k ∙ search rules)))

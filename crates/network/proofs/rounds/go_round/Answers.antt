@@ -1,22 +1,19 @@
-use Rattle.std.proofs.Common.{◌+◌, ◌<◌, length, refl, arith, rules}
-use Rattle.network.proofs.Rounding.{went_none, went_all, wrote_kept, wrote_risen, kept_more}
+use Rattle.std.proofs.Common.{◌<◌, drop, length, length-take, arith}
+use Rattle.std.proofs.lemmas.List.{get_or_append_left, length-take-le, set-get_or}
+use Rattle.network.proofs.Rounding.{went_all, wrote_kept, wrote_risen}
 use Rattle.network.proofs.rounds.go_round.Goals as goal
 use Rattle.network.proofs.rounds.go_round.Goals.{in-Some, in_default}
 
-pub offset_bounds-next-event : goal.offset_bounds-next-event
-offset_bounds-next-event g c = let h : c.loop-event.event < length c.args.next.now = omega arith in search rules
-
-pub loop-event-init : goal.loop-event-init
-loop-event-init g c = (went_none _ _ _ _ _, λ i h. refl)
-
 pub loop-event-preserved : goal.loop-event-preserved
 loop-event-preserved g c =
-    let room : c.loop-event.event < length c.loop-event.next = omega arith in
-    let places : c.args.base + c.loop-event.event < length c.loop-event.sources = omega arith in
+    let row = g.N.Kind.Mark.row in
+    let room : c.loop-event.event < length c.loop-event.next = omega (arith, simp length-take at c.loop-event-test.true, c.events.ensures) in
     elim c.match-source.branch [
-      | in-Some w ↦ rw (w.sources-is, w.changed-is) (wrote_risen _ _ _ g.N.Kind.Mark.row c.loop-event.next c.loop-event.sources c.args.base c.loop-event.event _ _ room c.loop-event.invariant.0 w.in-Some.from places (rw w.in-Some.is at c.raise-total.ensures), kept_more _ c.loop-event.sources c.args.base c.loop-event.event w.in-Some.from c.loop-event.invariant.1)
-      | in_default w ↦ rw (w.sources-is, w.changed-is) (wrote_kept _ _ _ g.N.Kind.Mark.row c.loop-event.next c.loop-event.sources c.args.base c.loop-event.event _ _ room c.loop-event.invariant.0 (rw w.in_default.is at c.raise-total.ensures), c.loop-event.invariant.1)
+      | in-Some w ↦ rw (w.place-items-is, w.changed-is) (wrote_risen _ _ _ row c.loop-event.next c.loop-event.place-items c.loop-event.event _ _ room c.loop-event.invariant w.in-Some.from (omega arith) (rw w.in-Some.is at c.raise-total.ensures))
+      | in_default w ↦ rw (w.place-items-is, w.changed-is) (rw (set-get_or c.loop-event.place-items c.loop-event.event 0) (wrote_kept _ _ _ row c.loop-event.next c.loop-event.place-items c.loop-event.event _ _ room c.loop-event.invariant (rw w.in_default.is at c.raise-total.ensures)))
     ]
 
 pub returns : goal.returns
-returns g c = record { went = went_all _ _ _ _ _ _ _ (omega arith) c.loop-event.invariant.0; kept = c.loop-event.invariant.1 }
+returns g c =
+    let full = length-take-le c.events.result c.args.sources.now (omega (arith, c.events.ensures)) in
+    went_all _ _ _ c.loop-event.event _ _ _ _ (omega (arith, full, c.events.ensures)) (λ v h. get_or_append_left c.loop-event.place-items (drop c.events.result c.args.sources.now) 0 v (omega (arith, c.events.ensures))) c.loop-event.invariant

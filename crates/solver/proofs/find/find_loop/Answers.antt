@@ -1,17 +1,10 @@
-use Rattle.std.proofs.Common.{Some, arith}
-use Rattle.solver.proofs.Finding.{ended_leads, written_loop, counted_sought}
-use Rattle.solver.proofs.Settling.{counted_net}
+use Rattle.solver.proofs.Finding.{ended_leads, written_loop}
 use Rattle.solver.proofs.find.find_loop.Goals as goal
 
-pub write_loop-requires : goal.write_loop-requires
-write_loop-requires g c =
-    let net = counted_net g.N.Kind.Mark.wide c.events-count.result _ (g.N.Network.weight c.args.net.now) c.events-count.ensures.count c.events-count.ensures.net in
-    record {
-      leads = ended_leads _ _ _ net c.last_changed.new.sources c.in_ok-last.last c.in_ok-last.ensures;
-      places = (net.few, (omega arith, omega arith));
-    }
+pub write_loop-requires-clause-leads : goal.write_loop-requires-clause-leads
+write_loop-requires-clause-leads g c =
+    rw c.events.ensures (ended_leads _ _ _ (g.met.N.Network.sound c.args.net.now) _ c.in_ok-last.last c.in_ok-last.ensures)
 
 pub returns : goal.returns
 returns g c =
-    let net = counted_net g.N.Kind.Mark.wide c.events-count.result _ (g.N.Network.weight c.args.net.now) c.events-count.ensures.count c.events-count.ensures.net in
-    counted_sought _ _ _ _ c.events-count.ensures.count _ _ (Some c.write_loop.result) (written_loop _ _ _ net c.last_changed.new.sources c.in_ok-last.last c.in_ok-last.ensures _ _ c.write_loop.result c.write_loop.ensures)
+    written_loop _ _ _ (g.met.N.Network.sound c.args.net.now) _ c.in_ok-last.last c.in_ok-last.ensures _ _ c.write_loop.result (rw c.events.ensures at c.write_loop.ensures)

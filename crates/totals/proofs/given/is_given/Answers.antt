@@ -3,24 +3,24 @@ use Rattle.std.proofs.lemmas.Int.{to_z-of_z}
 use Rattle.std.proofs.lemmas.List.{drop_all}
 use Rattle.rows.specs.Limits.{given_limit}
 use Rattle.rows.specs.Rows.{inside, bounded}
-use Rattle.marks.proofs.Parts.{inside_more, inside_out, part_missing}
+use Rattle.marks.proofs.Parts.{inside_read, part_missing}
 use Rattle.totals.proofs.given.is_given.Goals as goal
 
 pub returns-in_default : goal.returns-in_default
 returns-in_default g c =
     absurd (part_missing (g.K.Mark.row c.args.total) c.loop-index.index (omega (arith, g.met.K.Mark.row_wide c.args.total)) (sym c.part.ensures ∙ c.in_default.is))
 
-pub returns-then-not-within_given : goal.returns-then-not-within_given
-returns-then-not-within_given g c =
+pub returns-then-not-allows : goal.returns-then-not-allows
+returns-then-not-allows g c =
     let f : SFits w64 c.in-Some.part = search rules in
-    let out : bounded given_limit c.in-Some.part ≡ false = simp to_z-of_z at (sym c.if-not-within_given.ensures) in
-    inside_out given_limit (g.K.Mark.row c.args.total) c.loop-index.index c.in-Some.part (sym c.in-Some.ensures) out c.loop-index.invariant
+    let out : bounded given_limit c.in-Some.part ≡ false = simp to_z-of_z at (sym c.if-not-allows.ensures) in
+    inside_read given_limit (g.K.Mark.row c.args.total) c.loop-index.index c.in-Some.part false (sym c.in-Some.ensures) out c.loop-index.invariant
 
 pub loop-index-preserved : goal.loop-index-preserved
 loop-index-preserved g c =
     let f : SFits w64 c.in-Some.part = search rules in
-    let ok : bounded given_limit c.in-Some.part ≡ true = simp to_z-of_z at (sym c.if-not-within_given.ensures) in
-    inside_more given_limit (g.K.Mark.row c.args.total) c.loop-index.index c.in-Some.part (sym c.in-Some.ensures) ok c.loop-index.invariant
+    let ok : bounded given_limit c.in-Some.part ≡ true = simp to_z-of_z at (sym c.if-not-allows.ensures) in
+    inside_read given_limit (g.K.Mark.row c.args.total) c.loop-index.index c.in-Some.part true (sym c.in-Some.ensures) ok c.loop-index.invariant
 
 pub returns : goal.returns
 returns g c =

@@ -1,12 +1,8 @@
-use Rattle.rows.specs.Limits.{total_limit}
+use Rattle.std.proofs.Common.{rules}
 use Rattle.rows.proofs.Sums.{negated-plus}
-use Rattle.turned.proofs.Turning.{total_turned, beyond_turned}
+use Rattle.turned.proofs.Turning.{sum_turned}
 use Rattle.turned.proofs.TurnedMark.take.Goals as goal
-
-pub returns-in_err-inner : goal.returns-in_err-inner
-returns-in_err-inner g c =
-    rw c.from_residual.ensures (beyond_turned total_limit _ _ (negated-plus (g.M.Mark.row c.args.self.inner) (g.M.Mark.amount c.args.lag)) c.in_err-inner.ensures)
 
 pub returns : goal.returns
 returns g c =
-    total_turned total_limit _ _ _ (negated-plus (g.M.Mark.row c.args.self.inner) (g.M.Mark.amount c.args.lag)) c.in_ok-inner.ensures
+    sum_turned g.M.Mark.row _ _ c.add.result c.map.result (search rules) (negated-plus (g.M.Mark.row c.args.self.inner) (g.M.Mark.amount c.args.lag)) c.add.ensures

@@ -1,7 +1,0 @@
-use Rattle.std.proofs.Common.{◌≡◌}
-use Rattle.tables.specs.Tables.{events, lags}
-use Rattle.closest.specs.Served.{lag_from}
-use Rattle.closest.proofs.served.has_lag_from.Given as goal
-
-abbrev pub invariant-loop-k : goal.invariant-loop-k
-invariant-loop-k g l = l.found ≡ lag_from (lags g.K.Mark.amount (events l.stages) l.table) l.from l.k

@@ -1,5 +1,0 @@
-use Rattle.edits.proofs.Clearing.{ClearedBelow}
-use Rattle.edits.proofs.clear_event.Given as goal
-
-abbrev pub invariant-loop-other : goal.invariant-loop-other
-invariant-loop-other g l = ClearedBelow l.count l.event l.other l.initial.table l.table

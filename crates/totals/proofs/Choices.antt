@@ -1,0 +1,27 @@
+-- Which of two rows is the later, and which the earlier, by what an order of the two answers.
+use Rattle.std.proofs.Common.{◌≡◌, Some, Ordering, Less, Equal, Greater, refl, ap, ◌∙◌}
+use Rattle.std.specs.Ordering.{MatchOrdering}
+use Rattle.rows.specs.Rows.{Row, Before}
+use Rattle.rows.specs.MaxPlus.{later, earlier}
+use Rattle.rows.proofs.Extremes.{later_first, later_second, earlier_first, earlier_second}
+use Rattle.rows.proofs.Order.{before_asym, NotBefore-same}
+
+pub later_second_at : (o : Ordering) (x y : Row) → MatchOrdering o (Before x y) (x ≡ y) (Before y x) → o ≡ Less → Some y ≡ later (Some x) (Some y)
+later_second_at Less x y h e = later_second x y h
+later_second_at Equal x y h e = absurd (cc)
+later_second_at Greater x y h e = absurd (cc)
+
+pub later_first_at : (o : Ordering) (x y : Row) → MatchOrdering o (Before x y) (x ≡ y) (Before y x) → (o ≡ Less → ⊥) → Some x ≡ later (Some x) (Some y)
+later_first_at Less x y h n = absurd (n refl)
+later_first_at Equal x y h n = later_first x y (NotBefore-same x y h)
+later_first_at Greater x y h n = later_first x y (before_asym y x h)
+
+pub earlier_second_at : (o : Ordering) (x y : Row) → MatchOrdering o (Before x y) (x ≡ y) (Before y x) → o ≡ Greater → Some y ≡ earlier (Some x) (Some y)
+earlier_second_at Less x y h e = absurd (cc)
+earlier_second_at Equal x y h e = absurd (cc)
+earlier_second_at Greater x y h e = earlier_second x y (before_asym y x h)
+
+pub earlier_first_at : (o : Ordering) (x y : Row) → MatchOrdering o (Before x y) (x ≡ y) (Before y x) → (o ≡ Greater → ⊥) → Some x ≡ earlier (Some x) (Some y)
+earlier_first_at Less x y h n = earlier_first x y h
+earlier_first_at Equal x y h n = ap Some h ∙ earlier_second x y (NotBefore-same x y h)
+earlier_first_at Greater x y h n = absurd (n refl)
