@@ -26,7 +26,7 @@ pub fn arrival<K: Mark>(
     sum_of(time_at(totals, from), lag_at::<K>(count, table, to, from))
 }
 
-// The time of `to` minus the lag to it from `from`.
+// The time of `to` minus the lag to it from `from`. An operation apart from `arrival`: one function would take it as a closure, and be longer.
 pub fn departure<K: Mark>(
     count: usize,
     table: &[Option<K::Lag>],

@@ -21,6 +21,7 @@ pub(crate) fn turn_back<K: Mark>(
     }
 }
 
+// Named, since two functions need it.
 pub(crate) fn inner_of<K: Mark>(total: Option<Turned<K>>) -> Option<K>
     ensures { result ≡ option_map (λ t. t.inner) total }
 {

@@ -1,4 +1,4 @@
-// What the walks share.
+// What the walks share. The tests of plans lay lags likewise; a crate for the two would be longer than both.
 use crate::show::show_set;
 use marks::kind::Mark;
 use minutes::{Minutes, MinutesLag};
