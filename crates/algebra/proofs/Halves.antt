@@ -1,5 +1,5 @@
 -- The closest starts are the residual moved by half of Δ.
-use Rattle.std.proofs.Common.{◌≡◌, ℕ, zero, suc, ◌+◌, ◌-◌, ◌*◌, ◌/◌, ◌%◌, ◌<◌, ◌≤◌, max, cond, eqb, ◌⊎◌, [], ◌∷◌, ℤ, pos, ◌+ℤ◌, neg_ℤ, ◌<ℤ◌, Some, None, Option, sym, refl, ap, ◌∙◌, subst, ap₂, inl, inr, arith}
+use Rattle.std.proofs.Common.{◌≡◌, ℕ, zero, suc, ◌+◌, ◌-◌, ◌*◌, ◌/◌, ◌%◌, ◌<◌, ◌≤◌, max, cond, eqb, ◌⊎◌, [], ◌∷◌, ℤ, pos, ◌+ℤ◌, neg_ℤ, ◌<ℤ◌, Some, None, sym, refl, ap, ◌∙◌, subst, ap₂, inl, inr, arith}
 use Rattle.std.proofs.lemmas.Int.{ints}
 use Rattle.std.proofs.lemmas.Bool.{cases_lt, cond-true, cond-false, eq-eqb, ne_eqb}
 use Rattle.std.specs.Option.{option_map}
@@ -7,18 +7,19 @@ use Rattle.rows.specs.MaxPlus.{later, added}
 use Rattle.rows.specs.Rows.{Row, negated}
 use Rattle.rows.proofs.Extremes.{later_first, later_second}
 use Rattle.rows.proofs.Order.{NotBefore-antisym}
-use Rattle.schedules.specs.Plans.{Lags, Totals}
-use Rattle.tables.specs.Tables.{start, finish}
-use Rattle.starts.specs.Starts.{Backward}
-use Rattle.closest.specs.Closest.{minutes, Reach, Closest}
-use Rattle.closest.specs.Served.{AllServed}
-use Rattle.closest.specs.Steps.{minute, miss, largest, Moved}
-use Rattle.starts.specs.Steps.{folded, finish_of}
-use Rattle.closest.proofs.Nearest.{begin_there, end_there, miss_is, closest}
-use Rattle.closest.proofs.One.{there, to_not_before}
+use Rattle.schedules.specs.Plans.{Lags, Totals, Wide, columns}
+use Rattle.schedules.specs.Tables.{start, finish, events}
+use Rattle.schedules.proofs.Widths.{finish_wide}
+use Rattle.schedules.specs.Starts.{Backward}
+use Rattle.schedules.specs.Closest.{minutes, AllNear, Closest}
+use Rattle.schedules.specs.Served.{AllServed}
+use Rattle.schedules.specs.Nearing.{minute, miss, largest, Moved}
+use Rattle.schedules.specs.Folds.{finish_of}
+use Rattle.schedules.proofs.Nearest.{begin_there, end_there, miss_is, closest}
+use Rattle.schedules.proofs.One.{there, to_not_before}
 use Rattle.rows.specs.Algebra.{Vector, sum, ◌⊗◌, matrix_vector, vector_vector, conjugate, residual}
 use Rattle.algebra.specs.Matrices.{lag_matrix, starts_of, finishes_of}
-use Rattle.algebra.specs.Theorems.{Width, Widths, Full, ClosestIsHalf}
+use Rattle.algebra.specs.Theorems.{Full, ClosestIsHalf}
 use Rattle.algebra.proofs.Order.{sum_same}
 use Rattle.algebra.proofs.Residuals.{product_ends, back_starts, at_start, back_starts_wide, back_backward}
 
@@ -45,11 +46,7 @@ sum_minutes_from : (n : ℕ) (f : Vector) (g : ℕ → ℕ) → 1 ≤ n → ((k 
 sum_minutes_from zero f g first h = absurd (omega arith)
 sum_minutes_from (suc n) f g first h = sum_minutes n f g h
 
-sum_is_latest : (n : ℕ) (f : Vector) → sum n (λ k. f (suc k)) ≡ folded later n f
-sum_is_latest zero f = refl
-sum_is_latest (suc n) f = ap (λ (o : Option Row). later o (f (suc n))) (sum_is_latest n f)
-
-module _ (n : ℕ) (L : Lags) (d : Totals) (first : 1 ≤ n) (wide_L : Widths 1 L) (wide_d : Width 1 d) (due : Full n (finishes_of d)) (served : AllServed n L) where
+module _ (n : ℕ) (L : Lags) (d : Totals) (first : 1 ≤ n) (wide_L : Wide 1 (events n) L) (wide_d : Wide 1 (events n) (columns d)) (due : Full n (finishes_of d)) (served : AllServed n L) where
   -- the residual, as a vector and as a row of starts
   abbrev back : Vector
   back = residual n (lag_matrix L) (finishes_of d)
@@ -63,7 +60,7 @@ module _ (n : ℕ) (L : Lags) (d : Totals) (first : 1 ≤ n) (wide_L : Widths 1 
   abbrev half : ℕ
   half = (widest + 1) / 2
 
-  best_wide : Width 1 best
+  best_wide : Wide 1 (events n) (columns best)
   best_wide = back_starts_wide 1 n L d wide_L wide_d due
 
   best_backward : Backward 1 n L d best
@@ -77,14 +74,13 @@ module _ (n : ℕ) (L : Lags) (d : Totals) (first : 1 ≤ n) (wide_L : Widths 1 
       let same : suc (j - 1) ≡ j = omega arith in
       let t = due (j - 1) (omega arith) in
       let at : d (finish j) ≡ Some t.0 = subst (λ (i : ℕ). d (finish i) ≡ Some t.0) same t.1 in
-      there (d (finish j)) t.0 at (wide_d (finish j) t.0 at)
+      there (d (finish j)) t.0 at (finish_wide 1 n d wide_d j high t.0 at)
 
   -- Δ
   finish_product : (j : ℕ) → matrix_vector n (lag_matrix L) back j ≡ finish_of n L best (finish (suc j))
   finish_product j =
       sum_same n (λ k. L (finish (suc j)) (start (suc k)) ⊗ back k) (λ k. L (finish (suc j)) (start (suc k)) ⊗ best (start (suc k))) (λ k k_in. ap (added (L (finish (suc j)) (start (suc k)))) (sym (best_at k)))
       ∙ sym (product_ends 1 n L best wide_L best_wide j)
-      ∙ sum_is_latest n (λ k. added (best (start k)) (L (finish (suc j)) (start k)))
 
   part_is : (j : ℕ) → j < n → conjugate (matrix_vector n (lag_matrix L) back) j ⊗ finishes_of d j ≡ Some (minutes (miss n L d best (suc j)))
   part_is j j_in =
@@ -121,16 +117,16 @@ module _ (n : ℕ) (L : Lags) (d : Totals) (first : 1 ≤ n) (wide_L : Widths 1 
   module _ (y : Totals) (e : ℕ) (h : Closest n L d y e) where
     same_distance : e ≡ half
     same_distance =
-        let p : e ≤ half = h.smallest move half move_closest.reached in
-        let q : half ≤ e = move_closest.smallest y e h.reached in
+        let p : e ≤ half = h.smallest move half move_closest.near in
+        let q : half ≤ e = move_closest.smallest y e h.near in
         omega arith
 
     same_start : (k : ℕ) → 1 ≤ k → k ≤ n → y (start k) ≡ move (start k)
     same_start k low high =
-        let r = h.reached.starts k low high in
-        let s = move_closest.reached.starts k low high in
-        let not_after = h.latest move (subst (Reach n L d move) (sym same_distance) move_closest.reached) k r.0 s.0 low high r.1 s.1 in
-        let not_before = move_closest.latest y (subst (Reach n L d y) same_distance h.reached) k s.0 r.0 low high s.1 r.1 in
+        let r = h.near.starts k low high in
+        let s = move_closest.near.starts k low high in
+        let not_after = h.greatest move (subst (AllNear n L d move) (sym same_distance) move_closest.near) k r.0 s.0 low high r.1 s.1 in
+        let not_before = move_closest.greatest y (subst (AllNear n L d y) same_distance h.near) k s.0 r.0 low high s.1 r.1 in
         r.1 ∙ ap (λ (z : Row). Some z) (NotBefore-antisym r.0 s.0 (r.2 ∙ sym s.2) not_after not_before) ∙ sym s.1
 
     moved_residual : (k : ℕ) → k < n → starts_of y k ≡ Some (minutes e) ⊗ back k

@@ -1,7 +1,7 @@
+pub mod Answering
+pub mod Halves
 pub mod Order
 pub mod Powers
-pub mod Stars
 pub mod Residuals
 pub mod Serves
-pub mod Halves
-pub mod Widths
+pub mod Stars

@@ -1,17 +1,17 @@
--- The order of optional rows: ⊕ is the least that is at least both, ⊗ keeps the order, and a sum over an index is at least each part.
-use Rattle.std.proofs.Common.{◌≡◌, ℕ, zero, suc, ◌<◌, ◌⊎◌, length, Some, None, Option, sym, refl, ap, ◌∙◌, subst, ap₂, inl, inr, arith}
-use Rattle.std.proofs.lemmas.Bool.{cases_eq}
+-- The order of optional rows: ⊕ is the least that is at least both, ⊗ keeps the order, and a sum
+-- over an index is at least each part.
+use Rattle.std.proofs.Common.{◌≡◌, ℕ, ◌<◌, ◌⊎◌, length, Some, None, Option, sym, refl, ap, ◌∙◌, subst, inl, inr}
 use Rattle.rows.specs.Extremes.{LatestOf}
 use Rattle.rows.specs.MaxPlus.{later, added}
 use Rattle.rows.specs.Rows.{Row}
 use Rattle.rows.proofs.Order.{NotBefore-antisym, NotBefore-sum}
 use Rattle.rows.proofs.Sums.{plus_comm}
-use Rattle.schedules.proofs.Optional.{Rowed, AtLeast, AtLeast-refl, AtLeast-trans, later_rowed, later_at_left, later_at_right, later_one}
-use Rattle.schedules.proofs.Under.{later_under}
+use Rattle.schedules.proofs.Optional.{WideRow, AtLeast, AtLeast-refl, later_rowed, later_under, later_at_left, later_at_right}
+use Rattle.schedules.proofs.Joined.{folded_holds, folded_same, folded_one, folded_rowed, folded_covers}
 use Rattle.rows.proofs.Options.{none_or_some}
 use Rattle.rows.specs.Algebra.{Vector, sum, ◌≼◌}
 
-pub antisym : (w : ℕ) (p q : Option Row) → Rowed w p → Rowed w q → AtLeast p q → AtLeast q p → p ≡ q
+pub antisym : (w : ℕ) (p q : Option Row) → WideRow w p → WideRow w q → AtLeast p q → AtLeast q p → p ≡ q
 antisym w None None d e h k = refl
 antisym w None (Some y) d e h k = absurd h
 antisym w (Some x) None d e h k = absurd k
@@ -31,7 +31,7 @@ added_comm (Some x) (Some y) = ap (λ (z : Row). Some z) (plus_comm x y)
 
 -- the order of the algebra
 
-pub below_from : (w : ℕ) (a b : Option Row) → Rowed w a → Rowed w b → AtLeast b a → a ≼ b
+pub below_from : (w : ℕ) (a b : Option Row) → WideRow w a → WideRow w b → AtLeast b a → a ≼ b
 below_from w a b d e h = antisym w (later a b) b (later_rowed w a b d e) e (later_at_right a b) (later_under b a b h (AtLeast-refl b))
 
 pub below_to : (a b : Option Row) → a ≼ b → AtLeast b a
@@ -40,34 +40,24 @@ below_to a b e = subst (λ (o : Option Row). AtLeast o a) e (later_at_left a b)
 -- a sum over an index
 
 pub sum_same : (n : ℕ) (f g : Vector) → ((k : ℕ) → k < n → f k ≡ g k) → sum n f ≡ sum n g
-sum_same zero f g h = refl
-sum_same (suc n) f g h = ap₂ later (sum_same n f g (λ k l. h k (omega arith))) (h n (omega arith))
+sum_same n f g h = folded_same later None None n f g refl h
 
 pub sum_least : (n : ℕ) (f : Vector) (q : Option Row) → ((k : ℕ) → k < n → AtLeast q (f k)) → AtLeast q (sum n f)
-sum_least zero f q h = tt
-sum_least (suc n) f q h = later_under q (sum n f) (f n) (sum_least n f q (λ k l. h k (omega arith))) (h n (omega arith))
+sum_least n f q h = folded_holds (AtLeast q) (later_under q) None n f tt h
 
 pub sum_reached : (n : ℕ) (f : Vector) (q : Row) → sum n f ≡ Some q → (k : ℕ) × (k < n) × (f k ≡ Some q)
-sum_reached zero f q e = none_or_some q e
-sum_reached (suc n) f q e = go (λ h. sum_reached n f q h) (later_one (sum n f) (f n))
+sum_reached n f q e = go (folded_one None n f)
   where
-    go : (sum n f ≡ Some q → (k : ℕ) × (k < n) × (f k ≡ Some q)) → (later (sum n f) (f n) ≡ sum n f) ⊎ ((z : Row) × (f n ≡ Some z) × (later (sum n f) (f n) ≡ Some z)) → (k : ℕ) × (k < suc n) × (f k ≡ Some q)
-    go rest (inl h) = let t = rest (sym h ∙ e) in (t.0, omega (arith, t.1), t.2)
-    go rest (inr t) = (n, omega arith, t.1 ∙ sym t.2 ∙ e)
+    go : (sum n f ≡ None) ⊎ ((k : ℕ) × (k < n) × ((z : Row) × (f k ≡ Some z) × (sum n f ≡ Some z))) → (k : ℕ) × (k < n) × (f k ≡ Some q)
+    go (inl h) = none_or_some q (sym h ∙ e)
+    go (inr t) = (t.0, t.1, t.2.1 ∙ sym t.2.2 ∙ e)
 
 module _ (w : ℕ) where
-  pub sum_rowed : (n : ℕ) (f : Vector) → ((k : ℕ) → k < n → Rowed w (f k)) → Rowed w (sum n f)
-  sum_rowed zero f h = tt
-  sum_rowed (suc n) f h = later_rowed w (sum n f) (f n) (sum_rowed n f (λ k l. h k (omega arith))) (h n (omega arith))
+  pub sum_rowed : (n : ℕ) (f : Vector) → ((k : ℕ) → k < n → WideRow w (f k)) → WideRow w (sum n f)
+  sum_rowed n f h = folded_rowed w None f tt n h
 
-  pub sum_covers : (n : ℕ) (f : Vector) → ((k : ℕ) → k < n → Rowed w (f k)) → (k : ℕ) → k < n → AtLeast (sum n f) (f k)
-  sum_covers zero f h k l = absurd (omega arith)
-  sum_covers (suc n) f h k l = go (cases_eq k n) (λ m. sum_covers n f (λ i j. h i (omega arith)) k m)
-    where
-      go : (k ≡ n) ⊎ (k ≡ n → ⊥) → (k < n → AtLeast (sum n f) (f k)) → AtLeast (later (sum n f) (f n)) (f k)
-      go (inl e) rest = subst (λ (i : ℕ). AtLeast (later (sum n f) (f n)) (f i)) (sym e) (later_at_right (sum n f) (f n))
-      go (inr d) rest =
-          AtLeast-trans w (later (sum n f) (f n)) (sum n f) (f k) (sum_rowed (suc n) f h) (sum_rowed n f (λ i j. h i (omega arith))) (later_at_left (sum n f) (f n)) (rest (omega arith))
+  pub sum_covers : (n : ℕ) (f : Vector) → ((k : ℕ) → k < n → WideRow w (f k)) → (k : ℕ) → k < n → AtLeast (sum n f) (f k)
+  sum_covers n f h k l = folded_covers w None f tt n h k l
 
   -- one latest and one earliest of the rows of one width that have a property
 

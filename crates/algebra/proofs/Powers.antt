@@ -9,8 +9,8 @@ use Rattle.rows.proofs.Sums.{length-zeros}
 use Rattle.schedules.specs.Plans.{Totals, Wide}
 use Rattle.schedules.specs.Rounds.{round, rounds}
 use Rattle.schedules.specs.Walks.{Source}
-use Rattle.schedules.proofs.Optional.{Rowed, AtLeast, Rowed-to, AtLeast-refl, AtLeast-trans, after_rowed, after_is}
-use Rattle.schedules.proofs.Rounds.{lag_rowed, Sized, rounds_sized, round_covers, rounds_mono, round_source}
+use Rattle.schedules.proofs.Optional.{WideRow, AtLeast, WideRow-to, AtLeast-refl, AtLeast-trans, after_rowed, after_is}
+use Rattle.schedules.proofs.Rounds.{lag_rowed, WideTotals, rounds_sized, round_covers, rounds_mono, round_source}
 use Rattle.rows.specs.Algebra.{Matrix, identity, power, powers}
 use Rattle.algebra.proofs.Order.{antisym, added_mono, added_comm, sum_least, sum_rowed, sum_covers, latest_unique}
 
@@ -18,14 +18,14 @@ use Rattle.algebra.proofs.Order.{antisym, added_mono, added_comm, sum_least, sum
 abbrev pub unit : ℕ → ℕ → Totals
 unit w j v = identity w v j
 
-identity_rowed : (w i j : ℕ) → Rowed w (identity w i j)
+identity_rowed : (w i j : ℕ) → WideRow w (identity w i j)
 identity_rowed w i j = go (eqb i j)
   where
-    go : (b : Bool) → Rowed w (cond b (Some (zeros w)) None)
+    go : (b : Bool) → WideRow w (cond b (Some (zeros w)) None)
     go true = length-zeros w
     go false = tt
 
-pub unit_sized : (w m j : ℕ) → Sized w m (unit w j)
+pub unit_sized : (w m j : ℕ) → WideTotals w m (unit w j)
 unit_sized w m j v h = identity_rowed w v j
 
 -- q is the entry (v, j) of one of A^0, A^1, .., A^k
@@ -33,21 +33,21 @@ abbrev pub Upto : ℕ → ℕ → Matrix → ℕ → ℕ → ℕ → Row → Typ
 Upto w m A v j k q = (i : ℕ) × (i ≤ k) × (power w m A i v j ≡ Some q)
 
 module _ (w m : ℕ) (A : Matrix) (wide : Wide w m A) where
-  pub power_rowed : (k v j : ℕ) → v < m → Rowed w (power w m A k v j)
+  pub power_rowed : (k v j : ℕ) → v < m → WideRow w (power w m A k v j)
   power_rowed zero v j v_in = identity_rowed w v j
   power_rowed (suc k) v j v_in =
       sum_rowed w m (λ u. added (A v u) (power w m A k u j)) (λ u u_in. after_rowed w (A v u) (power w m A k u j) (lag_rowed w m A wide v u v_in u_in) (power_rowed k u j u_in))
 
-  part_rowed : (k v j u : ℕ) → v < m → u < m → Rowed w (added (A v u) (power w m A k u j))
+  part_rowed : (k v j u : ℕ) → v < m → u < m → WideRow w (added (A v u) (power w m A k u j))
   part_rowed k v j u v_in u_in = after_rowed w (A v u) (power w m A k u j) (lag_rowed w m A wide v u v_in u_in) (power_rowed k u j u_in)
 
   pub power_wide : (k v j : ℕ) (q : Row) → v < m → power w m A k v j ≡ Some q → length q ≡ w
-  power_wide k v j q v_in e = Rowed-to w (power w m A k v j) q e (power_rowed k v j v_in)
+  power_wide k v j q v_in e = WideRow-to w (power w m A k v j) q e (power_rowed k v j v_in)
 
   upto_wide : (v j k : ℕ) → v < m → (q : Row) → Upto w m A v j k q → length q ≡ w
   upto_wide v j k v_in q t = power_wide t.0 v j q v_in t.2
 
-  column_rowed : (j k v : ℕ) → v < m → Rowed w (rounds m A (unit w j) k v)
+  column_rowed : (j k v : ℕ) → v < m → WideRow w (rounds m A (unit w j) k v)
   column_rowed j k v v_in = rounds_sized w m A wide (unit w j) (unit_sized w m j) k v v_in
 
   -- k rounds have at least each power up to k
@@ -89,7 +89,7 @@ module _ (w m : ℕ) (A : Matrix) (wide : Wide w m A) where
       go (Some r) e =
           let t = power_over k v j r v_in e in
           let above : AtLeast (Some r) (power w m A t.0 v j) = subst (λ (o : Option Row). AtLeast o (power w m A t.0 v j)) e (power_under t.0 k v j t.1 v_in) in
-          let is : power w m A t.0 v j ≡ Some r = antisym w (power w m A t.0 v j) (Some r) (power_rowed t.0 v j v_in) (Rowed-to w (rounds m A (unit w j) k v) r e (column_rowed j k v v_in)) t.2 above in
+          let is : power w m A t.0 v j ≡ Some r = antisym w (power w m A t.0 v j) (Some r) (power_rowed t.0 v j v_in) (WideRow-to w (rounds m A (unit w j) k v) r e (column_rowed j k v v_in)) t.2 above in
           ((t.0, t.1, is), λ q s. subst₂ AtLeast e s.2 (power_under s.0 k v j s.1 v_in))
 
   pub powers_latest : (k v j : ℕ) → v < m → LatestOf (Upto w m A v j k) (powers w m A k v j)

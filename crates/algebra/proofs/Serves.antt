@@ -5,15 +5,15 @@ use Rattle.std.proofs.lemmas.Int.{ints}
 use Rattle.std.proofs.lemmas.Bool.{cases_Bool, cases_eq, cond-true, cond-false, eq-eqb, ne_eqb, and_from, true≢false}
 use Rattle.rows.specs.Extremes.{LatestOf, Among}
 use Rattle.rows.specs.MaxPlus.{added}
-use Rattle.rows.specs.Rows.{Row}
+use Rattle.rows.specs.Rows.{Row, plus}
 use Rattle.schedules.specs.Plans.{Lags, Totals}
-use Rattle.tables.specs.Tables.{start, finish}
-use Rattle.starts.proofs.Widths.{added_some}
-use Rattle.closest.specs.Closest.{Reach, Closest}
-use Rattle.closest.specs.Served.{lag_into, lag_from, AllServed}
-use Rattle.closest.specs.Steps.{minute}
-use Rattle.closest.proofs.Serving.{any_hit, any_none}
-use Rattle.closest.proofs.One.{one_part, from_not_before}
+use Rattle.schedules.specs.Tables.{start, finish}
+use Rattle.rows.proofs.Options.{both_some}
+use Rattle.schedules.specs.Closest.{AllNear, Closest}
+use Rattle.schedules.specs.Served.{lag_into, lag_from, AllServed}
+use Rattle.schedules.specs.Nearing.{minute}
+use Rattle.schedules.proofs.Serving.{any_hit, any_none}
+use Rattle.schedules.proofs.One.{one_part, from_not_before}
 
 none_is : (o : Option Row) → is_some o ≡ false → o ≡ None
 none_is None e = refl
@@ -52,21 +52,21 @@ module _ (n : ℕ) (L : Lags) (d y : Totals) (e : ℕ) (h : Closest n L d y e) w
       where
         go : (start k ≡ u) ⊎ (start k ≡ u → ⊥) → (r : Row) × (put y u t (start k) ≡ Some r) × (length r ≡ 1)
         go (inl q) = (t ∷ [], put_same y u (start k) t q, refl)
-        go (inr q) = let s = h.reached.starts k low high in (s.0, put_other y u (start k) t q ∙ s.1, s.2)
+        go (inr q) = let s = h.near.starts k low high in (s.0, put_other y u (start k) t q ∙ s.1, s.2)
 
-    put_reaches : Reach n L d (put y u t) e
-    put_reaches = record {
+    put_near : AllNear n L d (put y u t) e
+    put_near = record {
       starts = put_there;
       finishes = λ j low high.
-          let s = h.reached.finishes j low high in
+          let s = h.near.finishes j low high in
           (s.0, s.1, s.2, subst (λ (f : ℕ → Option Row). LatestOf (Among n f) (Some s.1)) (fun_ext (λ i. put_ends j i low high)) s.3, s.4);
     }
 
   into_served : (k : ℕ) → 1 ≤ k → k ≤ n → lag_into L (finish k) n ≡ true
   into_served k low high =
-      let s = h.reached.finishes k low high in
+      let s = h.near.finishes k low high in
       let a = s.3.0 in
-      let p = added_some (y (start a.0)) (L (finish k) (start a.0)) s.1 a.3 in
+      let p = both_some plus (y (start a.0)) (L (finish k) (start a.0)) s.1 a.3 in
       any_hit (λ i. is_some (L (finish k) (start i))) n a.0 a.1 a.2 (ap is_some p.3)
 
   from_served : (k : ℕ) → 1 ≤ k → k ≤ n → lag_from L (start k) n ≡ true
@@ -75,11 +75,11 @@ module _ (n : ℕ) (L : Lags) (d y : Totals) (e : ℕ) (h : Closest n L d y e) w
       go : (lag_from L (start k) n ≡ true) ⊎ (lag_from L (start k) n ≡ false) → lag_from L (start k) n ≡ true
       go (inl q) = q
       go (inr q) =
-          let s = h.reached.starts k low high in
+          let s = h.near.starts k low high in
           let t = minute (Some s.0) +ℤ pos 1 in
           let free : (j : ℕ) → 1 ≤ j → j ≤ n → L (finish j) (start k) ≡ None = λ j j1 jn. none_is (L (finish j) (start k)) (any_none (λ i. is_some (L (finish i) (start k))) n j j1 jn q) in
           let is = s.1 ∙ ap (λ (r : Row). Some r) (one_part s.0 s.2) in
-          let le : (minute (Some s.0) +ℤ pos 1) ≤ℤ minute (Some s.0) = from_not_before (minute (Some s.0)) (minute (Some s.0) +ℤ pos 1) (h.latest (put y (start k) t) (put_reaches (start k) t free) k (minute (Some s.0) ∷ []) (t ∷ []) low high is (put_same y (start k) (start k) t refl)) in
+          let le : (minute (Some s.0) +ℤ pos 1) ≤ℤ minute (Some s.0) = from_not_before (minute (Some s.0)) (minute (Some s.0) +ℤ pos 1) (h.greatest (put y (start k) t) (put_near (start k) t free) k (minute (Some s.0) ∷ []) (t ∷ []) low high is (put_same y (start k) (start k) t refl)) in
           absurd (omega (arith, ints))
 
   pub all_served : AllServed n L

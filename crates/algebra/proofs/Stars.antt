@@ -45,8 +45,8 @@ module _ (w m : ℕ) (A : Matrix) (wide : Wide w m A) (first : 1 ≤ m) where
   widened k v j None h above = λ q t. subst (AtLeast None) t.1 (above t.0)
   widened k v j (Some r) h above = ((h.0.0, h.0.2), λ q t. subst (AtLeast (Some r)) t.1 (above t.0))
 
-  settled_latest : (k v j : ℕ) → v < m → Settled m A (unit w j) k → LatestOf (SomePower w m A v j) (rounds m A (unit w j) k v)
-  settled_latest k v j v_in f = widened k v j (rounds m A (unit w j) k v) (rounds_latest w m A wide k v j v_in) above
+  settled_powers : (k v j : ℕ) → v < m → Settled m A (unit w j) k → LatestOf (SomePower w m A v j) (rounds m A (unit w j) k v)
+  settled_powers k v j v_in f = widened k v j (rounds m A (unit w j) k v) (rounds_latest w m A wide k v j v_in) above
     where
       above : (i : ℕ) → AtLeast (rounds m A (unit w j) k v) (power w m A i v j)
       above i =
@@ -54,13 +54,13 @@ module _ (w m : ℕ) (A : Matrix) (wide : Wide w m A) (first : 1 ≤ m) where
 
   pub star : Schedulable w m A → (k : ℕ) → m ≤ suc k → Star w m A (powers w m A k)
   star p k le v j v_in j_in =
-      subst (LatestOf (SomePower w m A v j)) (rounds_powers w m A wide k v j v_in) (settled_latest k v j v_in (settles w m A wide first (unit w j) (unit_sized w m j) p k le))
+      subst (LatestOf (SomePower w m A v j)) (rounds_powers w m A wide k v j v_in) (settled_powers k v j v_in (settles w m A wide first (unit w j) (unit_sized w m j) p k le))
 
   module _ (S : Matrix) (some : 1 ≤ w) (p : Schedulable w m A) (is : Star w m A S) where
     -- the opening's column
     column : (e : ℕ) → e < m → S e 0 ≡ rounds m A (opening w) (m - 1) e
     column e e_in =
-        latest_unique w (SomePower w m A e 0) (power_some_wide e 0 e_in) (S e 0) (rounds m A (unit w 0) (m - 1) e) (is e 0 e_in first) (settled_latest (m - 1) e 0 e_in (settles w m A wide first (unit w 0) (unit_sized w m 0) p (m - 1) (omega arith)))
+        latest_unique w (SomePower w m A e 0) (power_some_wide e 0 e_in) (S e 0) (rounds m A (unit w 0) (m - 1) e) (is e 0 e_in first) (settled_powers (m - 1) e 0 e_in (settles w m A wide first (unit w 0) (unit_sized w m 0) p (m - 1) (omega arith)))
         ∙ sym (opening_rounds w m A (m - 1) e)
 
     settled : Settled m A (opening w) (m - 1)
@@ -68,16 +68,16 @@ module _ (w m : ℕ) (A : Matrix) (wide : Wide w m A) (first : 1 ≤ m) where
 
     same_earliest : (e : ℕ) (r s : Row) → e < m → Earliest w m A e r → Earliest w m A e s → r ≡ s
     same_earliest e r s e_in h k =
-        let x = h.reached in
-        let y = k.reached in
-        let wr : length r ≡ w = sym (ap length x.1.1) ∙ x.1.0.wide e e_in in
-        let ws : length s ≡ w = sym (ap length y.1.1) ∙ y.1.0.wide e e_in in
+        let x = h.attained in
+        let y = k.attained in
+        let wr : length r ≡ w = sym (ap length x.1.1) ∙ x.1.0.keeping.wide e e_in in
+        let ws : length s ≡ w = sym (ap length y.1.1) ∙ y.1.0.keeping.wide e e_in in
         NotBefore-antisym r s (wr ∙ sym ws) (subst (λ (z : Row). NotBefore z s) x.1.1 (k.least x.0 x.1.0)) (subst (λ (z : Row). NotBefore z r) y.1.1 (h.least y.0 y.1.0))
 
     not_both : (e : ℕ) (r : Row) → e < m → Earliest w m A e r → FreeBelow w m A e → ⊥
     not_both e r e_in h f =
-        let x = h.reached in
-        let t = f r (sym (ap length x.1.1) ∙ x.1.0.wide e e_in) in
+        let x = h.attained in
+        let t = f r (sym (ap length x.1.1) ∙ x.1.0.keeping.wide e e_in) in
         h.least t.0 t.1.0 t.1.1
 
     from_column : (e : ℕ) (r : Row) → e < m → S e 0 ≡ Some r → Earliest w m A e r

@@ -2,9 +2,10 @@
 use Rattle.std.specs.Prelude.{suc}
 use Rattle.rows.specs.Algebra.{Vector, Matrix}
 use Rattle.schedules.specs.Plans.{Lags, Totals}
-use Rattle.tables.specs.Tables.{start, finish}
+use Rattle.schedules.specs.Tables.{start, finish}
 
--- The start-to-finish lags as a matrix, and the starts and finishes as vectors: the entries 0, 1, .. belong to the stages 1, 2, ..
+-- The start-to-finish lags as a matrix, and the starts and finishes as vectors: the entries 0, 1,
+-- .. belong to the stages 1, 2, ..
 abbrev pub lag_matrix : Lags → Matrix
 lag_matrix L j k = L (finish (suc j)) (start (suc k))
 

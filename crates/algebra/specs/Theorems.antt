@@ -1,60 +1,83 @@
--- The calls in the words of the algebra.
-use Rattle.std.specs.Prelude.{◌≡◌, ℕ, suc, ◌+◌, ◌/◌, ◌<◌, ◌≤◌, ◌↔◌, length, Some, Option}
+-- What the calls answer, in the words of the algebra.
+use Rattle.std.specs.Prelude.{◌≡◌, ℕ, suc, ◌+◌, ◌/◌, ◌<◌, ◌≤◌, ◌↔◌, Some, Option}
 use Rattle.std.specs.Option.{option_map}
 use Rattle.rows.specs.Rows.{Row, negated}
 use Rattle.schedules.specs.Answers.{LeastTime, GreatestTime}
-use Rattle.schedules.specs.Plans.{Lags, Totals, Wide, Schedulable}
+use Rattle.schedules.specs.Plans.{Lags, Totals, Wide, columns, Schedulable}
+use Rattle.schedules.specs.Tables.{events}
 use Rattle.schedules.specs.Rounds.{rounds, opening}
-use Rattle.starts.specs.Starts.{Finishes, Backward}
-use Rattle.closest.specs.Closest.{minutes, Closest}
+use Rattle.schedules.specs.Starts.{Finishes, Backward}
+use Rattle.schedules.specs.Closest.{minutes, Closest}
 use Rattle.rows.specs.Algebra.{◌⊗◌, ◌≼◌, Vector, Matrix, matrix_vector, vector_vector, powers, Star, transpose, conjugate, residual}
 use Rattle.algebra.specs.Matrices.{lag_matrix, starts_of, finishes_of}
-
--- every entry that is there has w parts
-abbrev pub Width : ℕ → Vector → Type 0
-Width w x = (i : ℕ) (r : Row) → x i ≡ Some r → length r ≡ w
-
-abbrev pub Widths : ℕ → Matrix → Type 0
-Widths w A = (i j : ℕ) (r : Row) → A i j ≡ Some r → length r ≡ w
 
 -- every one of the n entries is there
 abbrev pub Full : ℕ → Vector → Type 0
 Full n x = (i : ℕ) → i < n → (r : Row) × (x i ≡ Some r)
 
--- k rounds of the solver from the opening are the opening's column of I ⊕ A ⊕ .. ⊕ A^k, of every plan.
+-- k rounds from the opening are the opening's column of I ⊕ A ⊕ .. ⊕ A^k, of every plan.
 abbrev pub RoundsArePowers : Type 0
 RoundsArePowers =
-    (w m : ℕ) (A : Matrix) → Wide w m A → 1 ≤ m → (k e : ℕ) → e < m → rounds m A (opening w) k e ≡ powers w m A k e 0
+    (w m : ℕ) (A : Matrix) → Wide w m A → 1 ≤ m → (k e : ℕ) → e < m
+    → rounds m A (opening w) k e ≡ powers w m A k e 0
 
--- The matrix A of the lags of a plan that has a schedule: A* is I ⊕ A ⊕ .. ⊕ A^k from k = m - 1 on, and the least times are its column
--- of the opening, absent where the event is free.
-pub record EarliestIsStar : Type 0 where
-  pub star : (w m : ℕ) (A : Matrix) → Wide w m A → 1 ≤ m → Schedulable w m A → (k : ℕ) → m ≤ suc k → Star w m A (powers w m A k)
-  pub earliest : (w m : ℕ) (A S : Matrix) → Wide w m A → 1 ≤ w → 1 ≤ m → Schedulable w m A → Star w m A S → (e : ℕ) (o : Option Row) → e < m → LeastTime w m A e o ↔ (S e 0 ≡ o)
+-- A* is I ⊕ A ⊕ .. ⊕ A^k from k = m - 1 on, and the least times are its column of the opening,
+-- absent where the event is free.
+pub record LeastByStar (w m : ℕ) (A : Matrix) : Type 0 where
+  pub star : (k : ℕ) → m ≤ suc k → Star w m A (powers w m A k)
+  pub earliest : (S : Matrix) → 1 ≤ w → Star w m A S → (e : ℕ) (o : Option Row) → e < m
+      → LeastTime w m A e o ↔ (S e 0 ≡ o)
+
+-- so it is of the matrix of the lags of every plan that has a schedule
+abbrev pub EarliestIsStar : Type 0
+EarliestIsStar =
+    (w m : ℕ) (A : Matrix) → Wide w m A → 1 ≤ m → Schedulable w m A → LeastByStar w m A
 
 -- The greatest times are those of the transposed matrix, with every sign changed.
-pub record LatestIsStar : Type 0 where
-  pub star : (w m : ℕ) (A : Matrix) → Wide w m A → 1 ≤ m → Schedulable w m A → (k : ℕ) → m ≤ suc k → Star w m (transpose A) (powers w m (transpose A) k)
-  pub latest : (w m : ℕ) (A S : Matrix) → Wide w m A → 1 ≤ w → 1 ≤ m → Schedulable w m A → Star w m (transpose A) S → (e : ℕ) (o : Option Row) → e < m → GreatestTime w m A e o ↔ (S e 0 ≡ option_map negated o)
+pub record GreatestByStar (w m : ℕ) (A : Matrix) : Type 0 where
+  pub star : (k : ℕ) → m ≤ suc k → Star w m (transpose A) (powers w m (transpose A) k)
+  pub latest : (S : Matrix) → 1 ≤ w → Star w m (transpose A) S → (e : ℕ) (o : Option Row) → e < m
+      → GreatestTime w m A e o ↔ (S e 0 ≡ option_map negated o)
+
+abbrev pub LatestIsStar : Type 0
+LatestIsStar =
+    (w m : ℕ) (A : Matrix) → Wide w m A → 1 ≤ m → Schedulable w m A → GreatestByStar w m A
 
 -- The finishes are y = A ⊗ x.
 abbrev pub FinishIsProduct : Type 0
 FinishIsProduct =
-    (w n : ℕ) (L : Lags) (x y : Totals) → Widths w L → Width w x → Finishes n L x y → (j : ℕ) → j < n → finishes_of y j ≡ matrix_vector n (lag_matrix L) (starts_of x) j
+    (w n : ℕ) (L : Lags) (x y : Totals) → Wide w (events n) L → Wide w (events n) (columns x)
+    → Finishes n L x y → (j : ℕ) → j < n
+    → finishes_of y j ≡ matrix_vector n (lag_matrix L) (starts_of x) j
 
--- The starts that backward writes are (d⁻ ⊗ A)⁻, the greatest x with A ⊗ x ≼ d. An entry is absent where its column is: any start will do.
+-- A ⊗ x ≼ d
+abbrev pub Solves : ℕ → Matrix → Vector → Vector → Type 0
+Solves n A d x = (i : ℕ) → i < n → matrix_vector n A x i ≼ d i
+
+-- The starts that backward writes are (d⁻ ⊗ A)⁻, the greatest x with A ⊗ x ≼ d. An entry is absent
+-- where its column is: any start will do.
 pub record BackwardIsResidual : Type 0 where
-  pub starts : (w n : ℕ) (L : Lags) (d y : Totals) → Widths w L → Width w d → Width w y → Full n (finishes_of d) → Backward w n L d y → (k : ℕ) → k < n → starts_of y k ≡ residual n (lag_matrix L) (finishes_of d) k
-  pub below : (w n : ℕ) (A : Matrix) (d : Vector) → Widths w A → Width w d → Full n d → (i : ℕ) → i < n → matrix_vector n A (residual n A d) i ≼ d i
-  pub greatest : (w n : ℕ) (A : Matrix) (d x : Vector) → Widths w A → Width w d → Width w x → Full n d → ((i : ℕ) → i < n → matrix_vector n A x i ≼ d i) → (k : ℕ) (r : Row) → k < n → residual n A d k ≡ Some r → x k ≼ Some r
+  pub starts : (w n : ℕ) (L : Lags) (d y : Totals) → Wide w (events n) L
+      → Wide w (events n) (columns d) → Wide w (events n) (columns y) → Full n (finishes_of d)
+      → Backward w n L d y → (k : ℕ) → k < n
+      → starts_of y k ≡ residual n (lag_matrix L) (finishes_of d) k
+  pub below : (w n : ℕ) (A : Matrix) (d : Vector) → Wide w n A → Wide w n (columns d) → Full n d
+      → Solves n A d (residual n A d)
+  pub greatest : (w n : ℕ) (A : Matrix) (d x : Vector) → Wide w n A → Wide w n (columns d)
+      → Wide w n (columns x) → Full n d → Solves n A d x
+      → (k : ℕ) (r : Row) → k < n → residual n A d k ≡ Some r → x k ≼ Some r
 
--- The distance that closest answers is ⌈Δ / 2⌉ with Δ = (A ⊗ (d⁻ ⊗ A)⁻)⁻ ⊗ d, and its starts are that distance ⊗ (d⁻ ⊗ A)⁻.
+-- The distance that closest answers is ⌈Δ / 2⌉ with Δ = (A ⊗ (d⁻ ⊗ A)⁻)⁻ ⊗ d, and its starts are
+-- that distance ⊗ (d⁻ ⊗ A)⁻.
 pub record ClosestIsHalf (n : ℕ) (A : Matrix) (d y : Vector) (e : ℕ) : Type 0 where
   pub delta : ℕ
-  pub is : vector_vector n (conjugate (matrix_vector n A (residual n A d))) d ≡ Some (minutes delta)
+  pub is : vector_vector n (conjugate (matrix_vector n A (residual n A d))) d
+      ≡ Some (minutes delta)
   pub distance : e ≡ (delta + 1) / 2
   pub starts : (k : ℕ) → k < n → y k ≡ Some (minutes e) ⊗ residual n A d k
 
 abbrev pub ClosestIsResidual : Type 0
 ClosestIsResidual =
-    (n : ℕ) (L : Lags) (d y : Totals) (e : ℕ) → 1 ≤ n → Widths 1 L → Width 1 d → Full n (finishes_of d) → Closest n L d y e → ClosestIsHalf n (lag_matrix L) (finishes_of d) (starts_of y) e
+    (n : ℕ) (L : Lags) (d y : Totals) (e : ℕ) → 1 ≤ n → Wide 1 (events n) L
+    → Wide 1 (events n) (columns d) → Full n (finishes_of d) → Closest n L d y e
+    → ClosestIsHalf n (lag_matrix L) (finishes_of d) (starts_of y) e

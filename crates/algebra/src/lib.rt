@@ -1,47 +1,36 @@
 // The max-plus algebra: what the calls answer, as products, powers and residuals of matrices.
 #![tactic(auto)]
 
-ghost use Rattle.tables.specs.Tables.{lags, times};
-ghost use Rattle.algebra.specs.Theorems.{Width, Widths, RoundsArePowers, EarliestIsStar, LatestIsStar, FinishIsProduct, BackwardIsResidual, ClosestIsResidual};
+ghost use Rattle.algebra.specs.Theorems.{RoundsArePowers, EarliestIsStar, LatestIsStar, FinishIsProduct, BackwardIsResidual, ClosestIsResidual};
 
-use marks::kind::Mark;
-
-// Every amount of a table has the kind's width.
-pub fn amounts_have_the_width<K: Mark>(count: usize, table: &[Option<K::Lag>])
-    ensures { Widths K.Mark.wide (lags K.Mark.amount count table.now) }
-{}
-
-// So has every total of a row.
-pub fn totals_have_the_width<K: Mark>(totals: &[Option<K>])
-    ensures { Width K.Mark.wide (times K.Mark.row totals.now) }
-{}
-
-// The solver's rounds are sums of powers.
+/// The solver's rounds are sums of powers.
 pub fn rounds_are_powers()
     ensures { RoundsArePowers }
 {}
 
-// The least times are the opening's column of A*.
+/// The least times are the opening's column of A*.
 pub fn earliest_is_star()
     ensures { EarliestIsStar }
 {}
 
-// The greatest times are those of the transposed matrix, with every sign changed.
+/// The greatest times are those of the transposed matrix, with every sign changed.
 pub fn latest_is_star()
     ensures { LatestIsStar }
 {}
 
-// The finishes are y = A ⊗ x.
+/// The finishes are y = A ⊗ x.
 pub fn finish_is_product()
     ensures { FinishIsProduct }
 {}
 
-// The latest starts in time are (d⁻ ⊗ A)⁻, the greatest x with A ⊗ x ≼ d.
+/// The latest starts in time are (d⁻ ⊗ A)⁻, the greatest x with A ⊗ x ≼ d
+/// wherever they have an entry.
 pub fn backward_is_residual()
     ensures { BackwardIsResidual }
 {}
 
-// The smallest largest distance is ⌈Δ / 2⌉ with Δ = (A ⊗ (d⁻ ⊗ A)⁻)⁻ ⊗ d, and the starts are moved by it.
+/// The smallest largest distance is ⌈Δ / 2⌉ with Δ = (A ⊗ (d⁻ ⊗ A)⁻)⁻ ⊗ d, and the starts are moved
+/// by it.
 pub fn closest_is_residual()
     ensures { ClosestIsResidual }
 {}

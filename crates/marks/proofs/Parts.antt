@@ -1,18 +1,14 @@
 -- Rows, from the numbers that are stored for their parts.
-use Rattle.std.proofs.Common.{◌≡◌, ℕ, zero, suc, ◌+◌, ◌<◌, Bool, ◌&&◌, [], ◌∷◌, length, get_or, map, drop, ℤ, pos, neg_ℤ, ◌≤ℤ◌, ◌<ℤ◌, int_cmp, Some, None, Ordering, Less, Equal, Greater, sym, refl, ap, ◌∙◌, subst, inl, inr, arith}
+use Rattle.std.proofs.Common.{◌≡◌, ℕ, zero, suc, ◌+◌, ◌<◌, Bool, ◌&&◌, [], ◌∷◌, length, get_or, map, drop, ℤ, pos, ◌<ℤ◌, int_cmp, Some, None, Option, Ordering, Less, Equal, Greater, sym, refl, ap, ◌∙◌, subst, inl, inr, arith}
 use Rattle.std.specs.Cmp.Lexicographic.{slice_cmp}
 use Rattle.std.specs.List.{range_with_len}
 use Rattle.std.specs.Ordering.{MatchOrdering, ordering_then}
 use Rattle.std.proofs.lemmas.Cmp.{int_ranked}
 use Rattle.std.proofs.lemmas.List.FromFn.{fill_by_all}
-use Rattle.rows.specs.Rows.{Row, Before, Within, bounded, inside}
-use Rattle.marks.specs.Meaning.{clamped, Makes, part_at}
+use Rattle.rows.specs.Rows.{Row, Within, bounded, inside}
+use Rattle.marks.specs.Meaning.{clamped, Bounded, Makes, Ranked, part_at}
 use Rattle.rows.proofs.Sums.{cons≡}
 use Rattle.marks.proofs.Clamps.{clamped_within}
-
--- the number x is within the limit
-abbrev pub Inside : ℕ → ℤ → Type 0
-Inside limit x = (neg_ℤ (pos limit) ≤ℤ x) × (x ≤ℤ pos limit)
 
 -- a row is the one that was asked for
 abbrev pub Meant : ℕ → Row → Row → Type 0
@@ -22,7 +18,7 @@ pub none_meant : (limit : ℕ) → Meant limit [] []
 none_meant limit = (tt, refl)
 
 -- one part more, the number y that is stored for the part p
-pub part_meant : (limit : ℕ) (p y : ℤ) (ps row : Row) → Inside limit p × (y ≡ p) → Meant limit ps row → Meant limit (p ∷ ps) (clamped limit y ∷ row)
+pub part_meant : (limit : ℕ) (p y : ℤ) (ps row : Row) → Bounded limit p × (y ≡ p) → Meant limit ps row → Meant limit (p ∷ ps) (clamped limit y ∷ row)
 part_meant limit p y ps row k h = ((k.0, h.0), cons≡ (ap (clamped limit) k.1 ∙ clamped_within limit p k.0.0 k.0.1) h.1)
 
 -- numbers of the right count, read one by one
@@ -36,14 +32,14 @@ row_made w limit xs row e h =
 
 -- rows are ordered as lists of numbers are
 
-first_ranked : (o r : Ordering) (x y : ℤ) (xs ys : Row) → MatchOrdering o (x <ℤ y) (x ≡ y) (y <ℤ x) → MatchOrdering r (Before xs ys) (xs ≡ ys) (Before ys xs) → MatchOrdering (ordering_then o r) (Before (x ∷ xs) (y ∷ ys)) (◌≡◌ {A = Row} (x ∷ xs) (y ∷ ys)) (Before (y ∷ ys) (x ∷ xs))
+first_ranked : (o r : Ordering) (x y : ℤ) (xs ys : Row) → MatchOrdering o (x <ℤ y) (x ≡ y) (y <ℤ x) → Ranked xs ys r → Ranked (x ∷ xs) (y ∷ ys) (ordering_then o r)
 first_ranked Less r x y xs ys h k = inl h
 first_ranked Equal Less x y xs ys h k = inr (h, k)
 first_ranked Equal Equal x y xs ys h k = cons≡ h k
 first_ranked Equal Greater x y xs ys h k = inr (sym h, k)
 first_ranked Greater r x y xs ys h k = inl h
 
-pub rows_ranked : (xs ys : Row) → length xs ≡ length ys → MatchOrdering (slice_cmp int_cmp xs ys) (Before xs ys) (xs ≡ ys) (Before ys xs)
+pub rows_ranked : (xs ys : Row) → length xs ≡ length ys → Ranked xs ys (slice_cmp int_cmp xs ys)
 rows_ranked [] [] e = refl
 rows_ranked [] (y ∷ ys) e = absurd (omega arith)
 rows_ranked (x ∷ xs) [] e = absurd (omega arith)
@@ -62,14 +58,20 @@ part_drop (x ∷ r) (suc i) p h =
     let e : suc (i + 1) ≡ suc i + 1 = omega arith in
     part_drop r i p h ∙ cons≡ refl (ap (λ (k : ℕ). drop k (x ∷ r)) e)
 
-pub part_missing : (r : Row) (i : ℕ) → i < length r → part_at r i ≡ None → ⊥
+pub part_missing : (r : Row) (i : ℕ) → i < length r → ◌≡◌ {A = Option ℤ} None (part_at r i) → ⊥
 part_missing [] i h e = omega arith
 part_missing (x ∷ r) zero h e = let z : ◌≡◌ {A = ℕ} 0 1 = cc in omega arith
 part_missing (x ∷ r) (suc i) h e = part_missing r i (omega arith) e
 
+-- each part of a row is within the limit of the row
+pub part_inside : (limit : ℕ) (x : Row) (i : ℕ) (n : ℤ) → Within limit x → Some n ≡ part_at x i → Bounded limit n
+part_inside limit [] i n h e = let z : ◌≡◌ {A = ℕ} 0 1 = cc in absurd (omega arith)
+part_inside limit (a ∷ x) zero n h e = let p : a ≡ n = cc in subst (Bounded limit) p h.0
+part_inside limit (a ∷ x) (suc i) n h e = part_inside limit x i n h.1 e
+
 -- one part more of a row that is tested part by part
 
 -- b says whether that part is within the limit
-pub inside_read : (limit : ℕ) (r : Row) (i : ℕ) (p : ℤ) (b : Bool) → part_at r i ≡ Some p → bounded limit p ≡ b → inside limit (drop i r) ≡ inside limit r → (b && inside limit (drop (i + 1) r)) ≡ inside limit r
+pub inside_read : (limit : ℕ) (r : Row) (i : ℕ) (p : ℤ) (b : Bool) → Some p ≡ part_at r i → b ≡ bounded limit p → inside limit (drop i r) ≡ inside limit r → (b && inside limit (drop (i + 1) r)) ≡ inside limit r
 inside_read limit r i p b h within e =
-    ap (λ t. t && inside limit (drop (i + 1) r)) (sym within) ∙ ap (inside limit) (sym (part_drop r i p h)) ∙ e
+    ap (λ t. t && inside limit (drop (i + 1) r)) within ∙ ap (inside limit) (sym (part_drop r i p (sym h))) ∙ e

@@ -1,4 +1,4 @@
--- The number and the layer of each fault of a mark, and the words for layers.
+-- What each fault of a mark names, its number and its layer, and the words for layers.
 use Rattle.std.specs.Prelude.{ℕ, List, codes}
 use Rattle.marks.specs.declared.fault.Layer.{Layer}
 use Rattle.marks.specs.declared.fault.Layer.TheVariants.{Mark, Plan, Sheet}
@@ -10,6 +10,14 @@ mark_number NoLag = 10
 
 abbrev pub mark_layer : MarkFault → Layer
 mark_layer NoLag = Mark
+
+-- what a refusal names
+pub record Refusal : Type 0 where
+  pub number : ℕ
+  pub layer : Layer
+
+abbrev pub mark_refusal : MarkFault → Refusal
+mark_refusal fault = record { number = mark_number fault; layer = mark_layer fault }
 
 abbrev pub layer_word : Layer → List ℕ
 layer_word Mark = codes "mark"

@@ -1,3 +1,6 @@
 pub mod Bounds
 pub mod Faults
+pub mod Fits
 pub mod Meaning
+pub mod Opposites
+pub mod Twice

@@ -1,30 +1,30 @@
-// Stored numbers and their limits.
+// Stored numbers and their limits: a part of a lag or of a total is kept as a number of 64 bits.
 ghost use Rattle.std.specs.Prelude.{◌≡◌, pos, ◌+ℤ◌, neg_ℤ};
 ghost use Rattle.rows.specs.Limits.{lag_limit, total_limit};
 ghost use Rattle.rows.specs.Rows.{bounded};
 ghost use Rattle.marks.specs.Bounds.{limit_of};
 ghost use Rattle.marks.specs.Meaning.{clamped, NumberOf};
 
-// The limits on a part of a lag and of a total, either way.
-pub const LAG_LIMIT: i64 = 1_000_000;
+const LAG_LIMIT: i64 = 1_000_000;
 
-pub const TOTAL_LIMIT: i64 = 4_000_000_000;
+const TOTAL_LIMIT: i64 = 4_000_000_000;
 
-// The limit on a part of a total that a call reads from a row it is given.
-pub const GIVEN_LIMIT: i64 = 1_000_000_000;
+const GIVEN_LIMIT: i64 = 1_000_000_000;
 
-// The limits by name.
+/// How far from 0, either way, a part of a row may be.
 #[derive(Clone, Copy, PartialEq, Eq, Debug)]
 pub enum Limit {
+    /// A part of a lag.
     Lag,
+    /// A part of a total.
     Total,
+    /// A part of a total that a call reads from a row it is given.
     Given,
 }
 
 impl Limit {
-    // How far a number may be from 0.
     #[tactic(auto, unfolding(rows::specs::Limits::lag_limit, rows::specs::Limits::total_limit, rows::specs::Limits::given_limit))]
-    pub fn most(self) -> i64
+    fn most(self) -> i64
         ensures { result ≡ pos (limit_of self) }
     {
         match self {
@@ -34,7 +34,7 @@ impl Limit {
         }
     }
 
-    // A stored number past the limit means the limit.
+    /// What a stored number means: itself, or the limit on its side of 0 if it is beyond.
     pub fn clamp(self, stored: i64) -> i64
         ensures { result ≡ clamped (limit_of self) stored }
     {
@@ -42,6 +42,7 @@ impl Limit {
         stored.clamp(-most, most)
     }
 
+    /// Whether the number is not beyond the limit.
     pub fn allows(self, number: i64) -> bool
         ensures { result ≡ bounded (limit_of self) number }
     {
@@ -49,7 +50,7 @@ impl Limit {
         (-most..=most).contains(&number)
     }
 
-    // The number itself, or nothing if it is beyond the limit.
+    /// The number itself, or nothing if it is beyond the limit.
     pub fn within(self, number: i64) -> Option<i64>
         ensures { NumberOf (limit_of self) number result }
     {
@@ -57,7 +58,9 @@ impl Limit {
     }
 }
 
-// A stored total and a stored lag, added and taken. Apart, since one function for both would take a flag or a sign.
+// Sum and difference apart, since one function for both would take a flag or a sign.
+/// What the stored part of a total means, plus what that of a lag means. Nothing if it is beyond
+/// the limit of totals.
 #[tactic(auto, using(crate::proofs::Clamps::sum_fits))]
 pub fn add_parts(total: i64, lag: i64) -> Option<i64>
     ensures { NumberOf total_limit (clamped total_limit total +ℤ clamped lag_limit lag) result }
@@ -65,9 +68,12 @@ pub fn add_parts(total: i64, lag: i64) -> Option<i64>
     Limit::Total.within(Limit::Total.clamp(total) + Limit::Lag.clamp(lag))
 }
 
+/// What the stored part of a total means, minus what that of a lag means. Nothing if it is beyond
+/// the limit of totals.
 #[tactic(auto, using(crate::proofs::Clamps::difference_fits))]
 pub fn take_parts(total: i64, lag: i64) -> Option<i64>
-    ensures { NumberOf total_limit (clamped total_limit total +ℤ neg_ℤ (clamped lag_limit lag)) result }
+    ensures { NumberOf total_limit
+        (clamped total_limit total +ℤ neg_ℤ (clamped lag_limit lag)) result }
 {
     Limit::Total.within(Limit::Total.clamp(total) - Limit::Lag.clamp(lag))
 }

@@ -1,15 +1,33 @@
-// The planner's calls, each under its own name, and what they answer in the max-plus algebra.
+//! The planner: every call under its own name, the fault of a plan, and what the calls answer in
+//! the max-plus algebra.
 #![tactic(auto)]
 
+pub use crate::calls::backward::backward;
+pub use crate::calls::check::check;
+pub use crate::calls::closest::closest;
+pub use crate::calls::drop::drop;
+pub use crate::calls::earliest::earliest;
+pub use crate::calls::finish::finish;
+pub use crate::calls::latest::latest;
+pub use crate::calls::open::open;
+pub use crate::calls::set::set;
+pub use crate::calls::spread::spread;
+pub use crate::calls::void::void;
+pub use crate::calls::waiting::waiting;
+pub use crate::fault::PlanFault;
+pub use crate::table::{Place, count_places};
+pub use crate::widths::{amounts_have_the_width, totals_have_the_width};
 pub use algebra::{
     backward_is_residual, closest_is_residual, earliest_is_star, finish_is_product, latest_is_star,
 };
-pub use closest::closest;
-pub use due::backward;
-pub use edits::{drop, open, void};
-pub use keeping::check;
-pub use reach::waiting;
-pub use setting::set;
-pub use starts::forward::finish;
-pub use tables::fault::PlanFault;
-pub use times::bounds::{earliest, latest, spread};
+
+mod calls;
+mod checks;
+mod fault;
+mod given;
+mod solving;
+mod stages;
+mod table;
+mod turning;
+mod views;
+mod widths;

@@ -3,16 +3,12 @@ use Rattle.std.proofs.Common.{ℕ, ◌+◌, ◌*◌, ◌≤◌, mul-le-mul_right
 use Rattle.rows.specs.Limits.{lag_limit, total_limit, given_limit, most_events, Relations}
 
 pub relations : Relations
-unfolding lag_limit total_limit given_limit most_events
+unfolding lag_limit total_limit given_limit
 relations = record { chain_fits = omega arith; given_fits = omega arith; twice_fits = omega arith; machine = omega arith }
 
-below_most : (m : ℕ) → m ≤ 63 → m + 1 ≤ most_events + 1
-unfolding most_events
-below_most m h = omega arith
-
--- a chain over at most 63 events, and one lag more, fits into a total
-pub few_fit : (m : ℕ) → m ≤ 63 → (m + 1) * lag_limit ≤ total_limit
+-- a chain over at most so many events, and one lag more, fits into a total
+pub few_fit : (m : ℕ) → m ≤ most_events → (m + 1) * lag_limit ≤ total_limit
 few_fit m h =
-    let p : (m + 1) * lag_limit ≤ (most_events + 1) * lag_limit = mul-le-mul_right lag_limit (below_most m h) in
+    let p : (m + 1) * lag_limit ≤ (most_events + 1) * lag_limit = mul-le-mul_right lag_limit (omega (arith, h)) in
     let q : (most_events + 1) * lag_limit ≤ total_limit = relations.chain_fits in
     omega arith

@@ -1,5 +1,5 @@
 -- The order of rows.
-use Rattle.std.proofs.Common.{◌≡◌, ℕ, ◌≤◌, ◌⊎◌, [], ◌∷◌, length, ℤ, ◌+ℤ◌, neg_ℤ, ◌≤ℤ◌, sym, refl, ap, ◌∙◌, subst, inl, inr, arith}
+use Rattle.std.proofs.Common.{◌≡◌, ℕ, zero, suc, ◌≤◌, ◌⊎◌, [], ◌∷◌, length, ℤ, pos, ◌+ℤ◌, neg_ℤ, ◌≤ℤ◌, sym, refl, ap, ◌∙◌, subst, inl, inr, arith}
 use Rattle.std.proofs.lemmas.Int.{ints, by_lt_z}
 use Rattle.rows.specs.Rows.{Row, zeros, plus, minus, negated, Before, NotBefore}
 use Rattle.rows.proofs.Sums.{cons≡, length-plus, length-zeros, plus-zeros, plus_comm, plus-minus, length-negated, negated-negated}
@@ -56,6 +56,11 @@ before_total x y e = go (compared x y e)
     go (less h) = inl h
     go (same h) = inr (inl h)
     go (more h) = inr (inr h)
+
+-- one in the first part, and zero in the others
+pub after_zeros : (w : ℕ) → 1 ≤ w → (x : Row) × (length x ≡ w) × Before (zeros w) x
+after_zeros zero h = absurd (omega arith)
+after_zeros (suc w) h = (pos 1 ∷ zeros w, ap suc (length-zeros w), inl (omega (arith, ints)))
 
 pub before_asym : (x y : Row) → Before x y → NotBefore y x
 before_asym x y h k = before_irrefl x (before_trans x y x h k)

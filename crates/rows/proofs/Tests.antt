@@ -40,32 +40,33 @@ decided [] y = fails refl (λ h. h)
 decided (a ∷ x) [] = fails refl (λ h. h)
 decided (a ∷ x) (b ∷ y) = decided_next a b x y (lt_z a b) (lt_z b a) refl refl (decided x y)
 
--- the later of two rows is the second, which comes after the first, or else the first
-pub data Later (x y : Row) (z : Row) : Type 0 where
-  second : z ≡ y → Before x y → Later x y z
-  first : z ≡ x → NotBefore x y → Later x y z
+-- one of two rows, by the order of x and y
+pub data Picked (x y u v : Row) (z : Row) : Type 0 where
+  yes : z ≡ u → Before x y → Picked x y u v z
+  no : z ≡ v → NotBefore x y → Picked x y u v z
 
-pub later_is : (x y : Row) → Later x y (later_of x y)
-later_is x y = go (before x y) (decided x y)
+pub picked : (x y u v : Row) → Picked x y u v (cond (before x y) u v)
+picked x y u v = go (before x y) (decided x y)
   where
-    go : (b : Bool) → Decided x y b → Later x y (cond b y x)
-    go true (holds e h) = second refl h
+    go : (b : Bool) → Decided x y b → Picked x y u v (cond b u v)
+    go true (holds e h) = yes refl h
     go true (fails e n) = absurd (true≢false e)
     go false (holds e h) = absurd (false≢true e)
-    go false (fails e n) = first refl n
+    go false (fails e n) = no refl n
 
-pub data Earlier (x y : Row) (z : Row) : Type 0 where
-  second : z ≡ y → NotBefore x y → Earlier x y z
-  first : z ≡ x → Before x y → Earlier x y z
-
-pub earlier_is : (x y : Row) → Earlier x y (earlier_of x y)
-earlier_is x y = go (before x y) (decided x y)
+pub picked_yes : (x y u v : Row) → Before x y → u ≡ cond (before x y) u v
+picked_yes x y u v h = go (cond (before x y) u v) (picked x y u v)
   where
-    go : (b : Bool) → Decided x y b → Earlier x y (cond b x y)
-    go true (holds e h) = first refl h
-    go true (fails e n) = absurd (true≢false e)
-    go false (holds e h) = absurd (false≢true e)
-    go false (fails e n) = second refl n
+    go : (z : Row) → Picked x y u v z → u ≡ z
+    go z (yes e b) = sym e
+    go z (no e n) = absurd (n h)
+
+pub picked_no : (x y u v : Row) → NotBefore x y → v ≡ cond (before x y) u v
+picked_no x y u v h = go (cond (before x y) u v) (picked x y u v)
+  where
+    go : (z : Row) → Picked x y u v z → v ≡ z
+    go z (yes e b) = absurd (h b)
+    go z (no e n) = sym e
 
 pub before_true : (x y : Row) → before x y ≡ true → Before x y
 before_true x y e = go (decided x y)
@@ -81,47 +82,31 @@ before_false x y e = go (decided x y)
     go (holds t h) = absurd (both_ways (before x y) e t)
     go (fails t n) = n
 
+-- what holds of the picked one on either side
+picked_holds : (P : Row → Type 0) (x y u v : Row) → (Before x y → P u) → (NotBefore x y → P v) → P (cond (before x y) u v)
+picked_holds P x y u v p q = go (cond (before x y) u v) (picked x y u v)
+  where
+    go : (z : Row) → Picked x y u v z → P z
+    go z (yes e b) = subst P (sym e) (p b)
+    go z (no e n) = subst P (sym e) (q n)
+
 -- the later of two is before neither
 pub later_left : (x y : Row) → NotBefore (later_of x y) x
-later_left x y = go (later_of x y) (later_is x y)
-  where
-    go : (z : Row) → Later x y z → NotBefore z x
-    go z (second e h) b = before_asym x y h (subst (λ (t : Row). Before t x) e b)
-    go z (first e n) b = before_irrefl x (subst (λ (t : Row). Before t x) e b)
+later_left x y = picked_holds (λ z. NotBefore z x) x y y x (before_asym x y) (λ n. before_irrefl x)
 
 pub later_right : (x y : Row) → NotBefore (later_of x y) y
-later_right x y = go (later_of x y) (later_is x y)
-  where
-    go : (z : Row) → Later x y z → NotBefore z y
-    go z (second e h) b = before_irrefl y (subst (λ (t : Row). Before t y) e b)
-    go z (first e n) b = n (subst (λ (t : Row). Before t y) e b)
+later_right x y = picked_holds (λ z. NotBefore z y) x y y x (λ b. before_irrefl y) (λ n. n)
 
 -- neither of two is before the earlier
 pub earlier_left : (x y : Row) → NotBefore x (earlier_of x y)
-earlier_left x y = go (earlier_of x y) (earlier_is x y)
-  where
-    go : (z : Row) → Earlier x y z → NotBefore x z
-    go z (second e n) b = n (subst (λ (t : Row). Before x t) e b)
-    go z (first e h) b = before_irrefl x (subst (λ (t : Row). Before x t) e b)
+earlier_left x y = picked_holds (λ z. NotBefore x z) x y x y (λ b. before_irrefl x) (λ n. n)
 
 pub earlier_right : (x y : Row) → NotBefore y (earlier_of x y)
-earlier_right x y = go (earlier_of x y) (earlier_is x y)
-  where
-    go : (z : Row) → Earlier x y z → NotBefore y z
-    go z (second e n) b = before_irrefl y (subst (λ (t : Row). Before y t) e b)
-    go z (first e h) b = before_asym x y h (subst (λ (t : Row). Before y t) e b)
+earlier_right x y = picked_holds (λ z. NotBefore y z) x y x y (before_asym x y) (λ n. before_irrefl y)
 
 -- what holds of both holds of either
 pub later_both : (P : Row → Type 0) (x y : Row) → P x → P y → P (later_of x y)
-later_both P x y p q = go (later_of x y) (later_is x y)
-  where
-    go : (z : Row) → Later x y z → P z
-    go z (second e h) = subst P (sym e) q
-    go z (first e n) = subst P (sym e) p
+later_both P x y p q = picked_holds P x y y x (λ b. q) (λ n. p)
 
 pub earlier_both : (P : Row → Type 0) (x y : Row) → P x → P y → P (earlier_of x y)
-earlier_both P x y p q = go (earlier_of x y) (earlier_is x y)
-  where
-    go : (z : Row) → Earlier x y z → P z
-    go z (second e n) = subst P (sym e) q
-    go z (first e h) = subst P (sym e) p
+earlier_both P x y p q = picked_holds P x y x y (λ b. p) (λ n. q)

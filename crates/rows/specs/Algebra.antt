@@ -1,9 +1,10 @@
--- The max-plus algebra: optional rows with ⊕, the later of two, and ⊗, the sum. An absent row is neutral for ⊕ and absorbs in ⊗.
--- Vectors have the entries 0, 1, .., n - 1, and matrices so many rows and columns; what stands past them is not looked at.
+-- The max-plus algebra: optional rows with ⊕, the later of two, and ⊗, the sum. An absent row is
+-- neutral for ⊕ and absorbs in ⊗. Vectors have the entries 0, 1, .., n - 1, and matrices so many
+-- rows and columns; what stands past them is not looked at.
 use Rattle.std.specs.Prelude.{◌≡◌, ℕ, zero, suc, ◌<◌, cond, Some, None, Option, ◌==◌}
 use Rattle.std.specs.Option.{option_map}
 use Rattle.rows.specs.Extremes.{LatestOf}
-use Rattle.rows.specs.MaxPlus.{later, added}
+use Rattle.rows.specs.MaxPlus.{later, folded, added}
 use Rattle.rows.specs.Rows.{Row, zeros, negated}
 
 infixl 6 ◌⊕◌
@@ -28,8 +29,7 @@ Matrix = ℕ → ℕ → Option Row
 
 -- f 0 ⊕ f 1 ⊕ .. ⊕ f (n - 1)
 abbrev pub sum : ℕ → Vector → Option Row
-sum zero f = None
-sum (suc k) f = sum k f ⊕ f k
+sum n f = folded later None n f
 
 -- A ⊗ x, x ⊗ A, x ⊗ y and A ⊗ B
 abbrev pub matrix_vector : ℕ → Matrix → Vector → Vector
@@ -57,9 +57,11 @@ abbrev pub powers : ℕ → ℕ → Matrix → ℕ → Matrix
 powers w n A zero i j = identity w i j
 powers w n A (suc k) i j = powers w n A k i j ⊕ power w n A (suc k) i j
 
--- S is A*, the sum of all powers: each entry is the latest of that entry of every power, absent where it is absent in every power.
+-- S is A*, the sum of all powers: each entry is the latest of that entry of every power, absent
+-- where it is absent in every power.
 abbrev pub Star : ℕ → ℕ → Matrix → Matrix → Type 0
-Star w n A S = (i j : ℕ) → i < n → j < n → LatestOf (λ r. (k : ℕ) × (power w n A k i j ≡ Some r)) (S i j)
+Star w n A S =
+    (i j : ℕ) → i < n → j < n → LatestOf (λ r. (k : ℕ) × (power w n A k i j ≡ Some r)) (S i j)
 
 abbrev pub transpose : Matrix → Matrix
 transpose A i j = A j i

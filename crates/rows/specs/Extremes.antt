@@ -2,14 +2,17 @@
 use Rattle.std.specs.Prelude.{◌≡◌, ℕ, ◌≤◌, Some, None, Option}
 use Rattle.rows.specs.Rows.{Row, NotBefore}
 
--- absent exactly where no row has the property
+-- the row that has the property and stands in R to every row that has it, absent exactly where none
+-- has it
+abbrev pub BestOf : (Row → Row → Type 0) → (Row → Type 0) → Option Row → Type 0
+BestOf R P None = (q : Row) → P q → ⊥
+BestOf R P (Some r) = P r × ((q : Row) → P q → R r q)
+
 abbrev pub LatestOf : (Row → Type 0) → Option Row → Type 0
-LatestOf P None = (q : Row) → P q → ⊥
-LatestOf P (Some r) = P r × ((q : Row) → P q → NotBefore r q)
+LatestOf P o = BestOf NotBefore P o
 
 abbrev pub EarliestOf : (Row → Type 0) → Option Row → Type 0
-EarliestOf P None = (q : Row) → P q → ⊥
-EarliestOf P (Some r) = P r × ((q : Row) → P q → NotBefore q r)
+EarliestOf P o = BestOf (λ r q. NotBefore q r) P o
 
 -- q is one of f 1, f 2, .., f n
 abbrev pub Among : ℕ → (ℕ → Option Row) → Row → Type 0

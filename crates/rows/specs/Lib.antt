@@ -1,6 +1,6 @@
-pub mod Rows
-pub mod Limits
+pub mod Algebra
 pub mod Extremes
 pub mod Laws
+pub mod Limits
 pub mod MaxPlus
-pub mod Algebra
+pub mod Rows

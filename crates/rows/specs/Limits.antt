@@ -1,5 +1,6 @@
--- The limits. Proofs use the relations between them (`Relations`), not the numerals, but for those that tie the constants of the code to
--- them.
+-- The limits on parts of lags and totals: proofs use the relations between them (`Relations`) and
+-- not the numerals, but for those that tie the constants of the code to them. The counts of stages
+-- and events are abbreviations, so that proofs see the numbers.
 use Rattle.std.specs.Prelude.{ℕ, ◌+◌, ◌*◌, ◌^◌, ◌<◌, ◌≤◌}
 
 -- on a part of a lag
@@ -14,9 +15,17 @@ total_limit = 4000000000
 unfoldable pub given_limit : ℕ
 given_limit = 1000000000
 
--- the most events that a plan has
-unfoldable pub most_events : ℕ
-most_events = 63
+-- the most stages that a plan has
+abbrev pub most_stages : ℕ
+most_stages = 31
+
+-- and so its most events: the opening, and a start and a finish for each stage
+abbrev pub most_events : ℕ
+most_events = 2 * most_stages + 1
+
+-- the most parts that a kind of mark has
+abbrev pub most_parts : ℕ
+most_parts = 8
 
 pub record Relations : Type 0 where
   -- a chain of lags over every event, and one lag more, fits into a total

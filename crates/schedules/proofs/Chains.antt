@@ -3,10 +3,7 @@ use Rattle.std.proofs.Common.{◌≡◌, ℕ, ◌<◌, ◌≤◌, List, [], ◌�
 use Rattle.rows.specs.Rows.{Row, zeros, plus, Before, NotBefore}
 use Rattle.rows.proofs.Sums.{length-plus, length-sum_le, plus_assoc}
 use Rattle.rows.proofs.Order.{NotBefore-between, NotBefore-sum, before_raised}
-use Rattle.schedules.specs.Plans.{Lags, Wide, Times, Schedule, Schedulable, Chain, Loop}
-
-pub times_of : {w m : ℕ} {L : Lags} {x : ℕ → Row} → Schedule w m L x → Times w m L x
-times_of s = record { wide = s.wide; keeps = s.keeps }
+use Rattle.schedules.specs.Plans.{Lags, Wide, KeepsLags, Schedule, Schedulable, Chain, Loop}
 
 module _ (m : ℕ) (L : Lags) where
   pub chain_from : (es : List ℕ) (u v : ℕ) (r : Row) → Chain m L u es v r → u < m
@@ -24,7 +21,7 @@ module _ (w m : ℕ) (L : Lags) where
       ap length c.5 ∙ length-plus c.0 c.1 w (wide t u c.0 (chain_from m L es t v c.1 c.4) c.2 c.3) (chain_wide wide es t v c.1 c.4)
 
   -- the end of a chain comes at least its sum after the start
-  pub chain_keeps : (x : ℕ → Row) → Times w m L x → (es : List ℕ) (u v : ℕ) (r : Row) → Chain m L u es v r → NotBefore (x v) (plus (x u) r)
+  pub chain_keeps : (x : ℕ → Row) → KeepsLags w m L x → (es : List ℕ) (u v : ℕ) (r : Row) → Chain m L u es v r → NotBefore (x v) (plus (x u) r)
   chain_keeps x s [] u v r c = s.keeps v u r c.1 c.0 c.2
   chain_keeps x s (t ∷ es) u v r c =
       let a = c.0 in
@@ -36,13 +33,13 @@ module _ (w m : ℕ) (L : Lags) where
       subst (λ (z : Row). NotBefore (x v) z) (plus_assoc (x u) a b ∙ ap (plus (x u)) (sym c.5)) (NotBefore-between (x v) (plus (x t) b) (plus (plus (x u) a) b) width rest first)
 
   -- no times keep the lags of a closed chain whose sum is after zero
-  pub closed_contradicts : (x : ℕ → Row) → Times w m L x → (es : List ℕ) (e : ℕ) (r : Row) → Chain m L e es e r → Before (zeros w) r → ⊥
+  pub closed_contradicts : (x : ℕ → Row) → KeepsLags w m L x → (es : List ℕ) (e : ℕ) (r : Row) → Chain m L e es e r → Before (zeros w) r → ⊥
   closed_contradicts x s es e r c h =
       chain_keeps x s es e e r c (before_raised w (x e) r (s.wide e (chain_from m L es e e r c)) h)
 
   pub loop_contradicts : (x : ℕ → Row) → Schedule w m L x → (es : List ℕ) → Loop w m L es → ⊥
   loop_contradicts x s [] l = l
-  loop_contradicts x s (e ∷ es) l = closed_contradicts x (times_of s) es e l.2.0 l.2.1.0 l.2.1.1
+  loop_contradicts x s (e ∷ es) l = closed_contradicts x s.keeping es e l.2.0 l.2.1.0 l.2.1.1
 
   pub schedule_not_loop : Schedulable w m L → (es : List ℕ) → Loop w m L es → ⊥
   schedule_not_loop s es l = loop_contradicts s.0 s.1 es l

@@ -6,8 +6,8 @@ use Rattle.schedules.specs.Plans.{Lags, Wide, Schedulable, Chain, Distinct, Loop
 use Rattle.schedules.specs.Rounds.{round, rounds, opening, everywhere, Settled, Changed}
 use Rattle.schedules.specs.Walks.{Source, Traced, walk, backs}
 use Rattle.schedules.proofs.Optional.{alike}
-use Rattle.schedules.proofs.Rounds.{Sized, rounds_sized, opening_sized, everywhere_sized, round_source, Settled-from}
-use Rattle.schedules.proofs.Chains.{times_of, closed_contradicts}
+use Rattle.schedules.proofs.Rounds.{WideTotals, rounds_sized, opening_sized, everywhere_sized, round_source, Settled-from}
+use Rattle.schedules.proofs.Chains.{closed_contradicts}
 use Rattle.schedules.proofs.Settled.{settled_schedulable}
 use Rattle.schedules.proofs.Repeats.{Repeat, repeats}
 use Rattle.schedules.proofs.Walks.{walk_below, closed_walk, walk_distinct}
@@ -42,7 +42,7 @@ pub record Closed (w m : ℕ) (L : Lags) : Type 0 where
   pub chain : Chain m L event others event sum
   pub after : Before (zeros w) sum
 
-module _ (w m : ℕ) (L : Lags) (wide : Wide w m L) (first : 1 ≤ m) (S : Totals) (sized : Sized w m S) where
+module _ (w m : ℕ) (L : Lags) (wide : Wide w m L) (first : 1 ≤ m) (S : Totals) (sized : WideTotals w m S) where
   -- a change in round m closes a chain
   pub change_closes : (v : ℕ) → v < m → Changed m L S (m - 1) v → Closed w m L
   change_closes v v_in c = go (repeats m p below)
@@ -101,12 +101,12 @@ module _ (w m : ℕ) (L : Lags) (wide : Wide w m L) (first : 1 ≤ m) where
       go (inr c) = inr (Closed-loop w m L c.event c.others c.sum c.distinct c.chain c.after)
 
   -- with a schedule, totals from any start settle before round m
-  pub settles : (S : Totals) → Sized w m S → Schedulable w m L → (k : ℕ) → m ≤ suc k → Settled m L S k
+  pub settles : (S : Totals) → WideTotals w m S → Schedulable w m L → (k : ℕ) → m ≤ suc k → Settled m L S k
   settles S sized p k le = go (settled_or_closed w m L wide first S sized)
     where
       go : Settled m L S (m - 1) ⊎ Closed w m L → Settled m L S k
       go (inl f) = Settled-from m L S (m - 1) k (omega arith) f
-      go (inr c) = absurd (closed_contradicts w m L p.0 (times_of p.1) c.others c.event c.sum c.chain c.after)
+      go (inr c) = absurd (closed_contradicts w m L p.0 p.1.keeping c.others c.event c.sum c.chain c.after)
 
   pub opening_settles : Schedulable w m L → (k : ℕ) → m ≤ suc k → Settled m L (opening w) k
   opening_settles = settles (opening w) (opening_sized w m)

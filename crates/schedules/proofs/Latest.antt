@@ -1,4 +1,5 @@
--- Totals of the mirrored plan, settled from the opening, are the greatest times with every sign changed.
+-- Totals of the mirrored plan, settled from the opening, are the greatest times with every sign
+-- changed.
 use Rattle.std.proofs.Common.{◌≡◌, ℕ, ◌<◌, ◌≤◌, Some, None, sym, subst}
 use Rattle.rows.specs.Rows.{Row, negated}
 use Rattle.rows.proofs.Sums.{negated-negated}

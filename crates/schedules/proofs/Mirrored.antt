@@ -20,9 +20,11 @@ mirrored_lag x y a e h =
 module _ (w m : ℕ) where
   pub mirrored : (L : Lags) → Wide w m L → (x : ℕ → Row) → Schedule w m L x → Schedule w m (reversed L) (λ v. negated (x v))
   mirrored L wide x s = record {
-    wide = λ v v_in. length-negated (x v) ∙ s.wide v v_in;
+    keeping = record {
+      wide = λ v v_in. length-negated (x v) ∙ s.keeping.wide v v_in;
+      keeps = λ v u a v_in u_in e. mirrored_lag (x v) (x u) a (s.keeping.wide v v_in ∙ sym (wide u v a u_in v_in e)) (s.keeping.keeps u v a u_in v_in e);
+    };
     opens = ap negated s.opens ∙ negated-zeros w;
-    keeps = λ v u a v_in u_in e. mirrored_lag (x v) (x u) a (s.wide v v_in ∙ sym (wide u v a u_in v_in e)) (s.keeps u v a u_in v_in e);
   }
 
   module _ (L : Lags) (wide : Wide w m L) where
@@ -40,13 +42,13 @@ module _ (w m : ℕ) where
 
     pub latest_mirrored : (e : ℕ) (r : Row) → Latest w m L e r → Earliest w m (reversed L) e (negated r)
     latest_mirrored e r t = record {
-      reached = (λ v. negated (t.reached.0 v), (mirrored L wide t.reached.0 t.reached.1.0, ap negated t.reached.1.1));
+      attained = (λ v. negated (t.attained.0 v), (mirrored L wide t.attained.0 t.attained.1.0, ap negated t.attained.1.1));
       least = λ x s. subst (λ (z : Row). NotBefore z (negated r)) (negated-negated (x e)) (NotBefore-negated r (negated (x e)) (t.greatest (λ v. negated (x v)) (mirrored_back x s)));
     }
 
     pub earliest_mirrored : (e : ℕ) (r : Row) → Earliest w m (reversed L) e (negated r) → Latest w m L e r
     earliest_mirrored e r t = record {
-      reached = (λ v. negated (t.reached.0 v), (mirrored_back t.reached.0 t.reached.1.0, ap negated t.reached.1.1 ∙ negated-negated r));
+      attained = (λ v. negated (t.attained.0 v), (mirrored_back t.attained.0 t.attained.1.0, ap negated t.attained.1.1 ∙ negated-negated r));
       greatest = λ x s. subst₂ (λ (p q : Row). NotBefore p q) (negated-negated r) (negated-negated (x e)) (NotBefore-negated (negated (x e)) (negated r) (t.least (λ v. negated (x v)) (mirrored L wide x s)));
     }
 

@@ -4,8 +4,8 @@ use Rattle.rows.specs.Rows.{Row, plus, Before, NotBefore}
 use Rattle.rows.proofs.Options.{none_or_some, same_some}
 use Rattle.rows.proofs.Sums.{length-plus}
 use Rattle.rows.proofs.Order.{Compared, less, same, more, compared, before_irrefl, NotBefore-trans, then_before}
-use Rattle.rows.specs.MaxPlus.{later_of, later, added}
-use Rattle.rows.proofs.Tests.{Later, second, first, later_is, later_left, later_right, later_both}
+use Rattle.rows.specs.MaxPlus.{later_of, both, later, added}
+use Rattle.rows.proofs.Tests.{Picked, yes, no, picked, later_left, later_right, later_both}
 
 pub some_inj : {x y : Row} → ◌≡◌ {A = Option Row} (Some x) (Some y) → x ≡ y
 some_inj {x} {y} e = same_some x y e
@@ -13,10 +13,31 @@ some_inj {x} {y} e = same_some x y e
 pub some_none : {x : Row} → ◌≡◌ {A = Option Row} (Some x) None → ⊥
 some_none {x} e = none_or_some x (sym e)
 
+-- P of the row, where there is one
+abbrev pub Held : (Row → Type 0) → Option Row → Type 0
+Held P None = Unit {0}
+Held P (Some r) = P r
+
+pub held_from : (P : Row → Type 0) (o : Option Row) → ((r : Row) → o ≡ Some r → P r) → Held P o
+held_from P None f = tt
+held_from P (Some r) f = f r refl
+
+pub held_to : (P : Row → Type 0) (o : Option Row) (r : Row) → o ≡ Some r → Held P o → P r
+held_to P o r e h = subst (Held P) e h
+
+pub held_later : (P : Row → Type 0) (o p : Option Row) → Held P o → Held P p → Held P (later o p)
+held_later P None p h k = k
+held_later P (Some x) None h k = h
+held_later P (Some x) (Some y) h k = later_both P x y h k
+
+pub held_both : (P Q S : Row → Type 0) (f : Row → Row → Row) → ((x y : Row) → P x → Q y → S (f x y)) → (o p : Option Row) → Held P o → Held Q p → Held S (both f o p)
+held_both P Q S f each None p h k = tt
+held_both P Q S f each (Some x) None h k = tt
+held_both P Q S f each (Some x) (Some y) h k = each x y h k
+
 -- w parts, where there is a row
-abbrev pub Rowed : ℕ → Option Row → Type 0
-Rowed w None = Unit {0}
-Rowed w (Some r) = length r ≡ w
+abbrev pub WideRow : ℕ → Option Row → Type 0
+WideRow w o = Held (λ r. length r ≡ w) o
 
 -- the first is not below the second
 abbrev pub AtLeast : Option Row → Option Row → Type 0
@@ -30,18 +51,17 @@ Below p None = ⊥
 Below None (Some y) = Unit {0}
 Below (Some x) (Some y) = Before x y
 
-pub Rowed-from : (w : ℕ) (o : Option Row) → ((a : Row) → o ≡ Some a → length a ≡ w) → Rowed w o
-Rowed-from w None f = tt
-Rowed-from w (Some a) f = f a refl
+pub WideRow-from : (w : ℕ) (o : Option Row) → ((a : Row) → o ≡ Some a → length a ≡ w) → WideRow w o
+WideRow-from w = held_from (λ r. length r ≡ w)
 
-pub Rowed-to : (w : ℕ) (o : Option Row) (a : Row) → o ≡ Some a → Rowed w o → length a ≡ w
-Rowed-to w o a e h = subst (Rowed w) e h
+pub WideRow-to : (w : ℕ) (o : Option Row) (a : Row) → o ≡ Some a → WideRow w o → length a ≡ w
+WideRow-to w = held_to (λ r. length r ≡ w)
 
 pub AtLeast-refl : (o : Option Row) → AtLeast o o
 AtLeast-refl None = tt
 AtLeast-refl (Some x) = before_irrefl x
 
-pub AtLeast-trans : (w : ℕ) (p q o : Option Row) → Rowed w p → Rowed w q → AtLeast p q → AtLeast q o → AtLeast p o
+pub AtLeast-trans : (w : ℕ) (p q o : Option Row) → WideRow w p → WideRow w q → AtLeast p q → AtLeast q o → AtLeast p o
 AtLeast-trans w p q None d e h k = tt
 AtLeast-trans w p None (Some z) d e h k = absurd k
 AtLeast-trans w None (Some y) (Some z) d e h k = absurd h
@@ -54,7 +74,7 @@ below_not_at_least None (Some y) b h = h
 below_not_at_least (Some x) (Some y) b h = h b
 
 -- at least and not alike is above
-pub above : (w : ℕ) (p o : Option Row) → Rowed w p → Rowed w o → AtLeast p o → (p ≡ o → ⊥) → Below o p
+pub above : (w : ℕ) (p o : Option Row) → WideRow w p → WideRow w o → AtLeast p o → (p ≡ o → ⊥) → Below o p
 above w None None d e h n = absurd (n refl)
 above w (Some x) None d e h n = tt
 above w None (Some y) d e h n = absurd h
@@ -66,7 +86,7 @@ above w (Some x) (Some y) d e h n = go (compared x y (d ∙ sym e))
     go (more b) = b
 
 -- alike or not
-pub alike : (w : ℕ) (p o : Option Row) → Rowed w p → Rowed w o → (p ≡ o) ⊎ (p ≡ o → ⊥)
+pub alike : (w : ℕ) (p o : Option Row) → WideRow w p → WideRow w o → (p ≡ o) ⊎ (p ≡ o → ⊥)
 alike w None None d e = inl refl
 alike w (Some x) None d e = inr some_none
 alike w None (Some y) d e = inr (λ h. some_none (sym h))
@@ -78,7 +98,7 @@ alike w (Some x) (Some y) d e = go (compared x y (d ∙ sym e))
     go (more b) = inr (λ h. before_irrefl y (subst (λ (z : Row). Before y z) (some_inj h) b))
 
 -- below what is above
-pub below_under : (w : ℕ) (o q p : Option Row) → Rowed w o → Rowed w q → AtLeast q o → Below q p → Below o p
+pub below_under : (w : ℕ) (o q p : Option Row) → WideRow w o → WideRow w q → AtLeast q o → Below q p → Below o p
 below_under w o q None d e h b = absurd b
 below_under w None q (Some z) d e h b = tt
 below_under w (Some x) None (Some z) d e h b = absurd h
@@ -86,10 +106,8 @@ below_under w (Some x) (Some y) (Some z) d e h b = then_before x y z (e ∙ sym 
 
 -- the later of two
 
-pub later_rowed : (w : ℕ) (o p : Option Row) → Rowed w o → Rowed w p → Rowed w (later o p)
-later_rowed w None p d e = e
-later_rowed w (Some x) None d e = d
-later_rowed w (Some x) (Some y) d e = later_both (λ (z : Row). length z ≡ w) x y d e
+pub later_rowed : (w : ℕ) (o p : Option Row) → WideRow w o → WideRow w p → WideRow w (later o p)
+later_rowed w = held_later (λ r. length r ≡ w)
 
 pub later_at_left : (o p : Option Row) → AtLeast (later o p) o
 later_at_left None p = tt
@@ -101,29 +119,26 @@ later_at_right None p = AtLeast-refl p
 later_at_right (Some x) None = tt
 later_at_right (Some x) (Some y) = later_right x y
 
+pub later_under : (q o p : Option Row) → AtLeast q o → AtLeast q p → AtLeast q (later o p)
+later_under q None p h k = k
+later_under q (Some x) None h k = h
+later_under q (Some x) (Some y) h k = later_both (λ (z : Row). AtLeast q (Some z)) x y h k
+
 -- it is the first, or else the second, which is there
 pub later_one : (o p : Option Row) → (later o p ≡ o) ⊎ ((z : Row) × (p ≡ Some z) × (later o p ≡ Some z))
 later_one None None = inl refl
 later_one None (Some y) = inr (y, refl, refl)
 later_one (Some x) None = inl refl
-later_one (Some x) (Some y) = go (later_of x y) (later_is x y)
+later_one (Some x) (Some y) = go (later_of x y) (picked x y y x)
   where
-    go : (z : Row) → Later x y z → (◌≡◌ {A = Option Row} (Some z) (Some x)) ⊎ ((t : Row) × (◌≡◌ {A = Option Row} (Some y) (Some t)) × (◌≡◌ {A = Option Row} (Some z) (Some t)))
-    go z (second e h) = inr (y, refl, ap (λ (t : Row). Some t) e)
-    go z (first e n) = inl (ap (λ (t : Row). Some t) e)
+    go : (z : Row) → Picked x y y x z → (◌≡◌ {A = Option Row} (Some z) (Some x)) ⊎ ((t : Row) × (◌≡◌ {A = Option Row} (Some y) (Some t)) × (◌≡◌ {A = Option Row} (Some z) (Some t)))
+    go z (yes e h) = inr (y, refl, ap (λ (t : Row). Some t) e)
+    go z (no e n) = inl (ap (λ (t : Row). Some t) e)
 
 -- a total and a lag
 
-pub after_rowed : (w : ℕ) (t a : Option Row) → Rowed w t → Rowed w a → Rowed w (added t a)
-after_rowed w None a d e = tt
-after_rowed w (Some t) None d e = tt
-after_rowed w (Some t) (Some a) d e = length-plus t a w d e
+pub after_rowed : (w : ℕ) (t a : Option Row) → WideRow w t → WideRow w a → WideRow w (added t a)
+after_rowed w = held_both (λ r. length r ≡ w) (λ r. length r ≡ w) (λ r. length r ≡ w) plus (λ t a. length-plus t a w)
 
 pub after_is : (t a : Option Row) (x y : Row) → t ≡ Some x → a ≡ Some y → added t a ≡ Some (plus x y)
 after_is t a x y d e = rw (d, e)
-
--- a sum has its parts
-pub after_from : (t a : Option Row) (z : Row) → added t a ≡ Some z → (x : Row) × (y : Row) × (t ≡ Some x) × (a ≡ Some y) × (z ≡ plus x y)
-after_from None a z e = absurd (some_none (sym e))
-after_from (Some x) None z e = absurd (some_none (sym e))
-after_from (Some x) (Some y) z e = (x, y, refl, refl, sym (some_inj e))

@@ -1,4 +1,5 @@
--- Totals settled from the opening make a schedule: the events reached at their totals, and the others far enough down.
+-- Totals settled from the opening make a schedule: the events reached at their totals, and the
+-- others far enough down.
 use Rattle.std.proofs.Common.{◌≡◌, ℕ, ◌<◌, ◌≤◌, length, Some, None, Option, sym, refl, ap, ◌∙◌, subst, subst₂}
 use Rattle.rows.specs.Rows.{Row, plus, minus, negated, Before, NotBefore}
 use Rattle.rows.proofs.Sums.{length-minus, plus_assoc, plus_comm, plus_swap, minus_plus}
@@ -6,7 +7,7 @@ use Rattle.rows.proofs.Order.{before_plus, NotBefore-sum, NotBefore-trans}
 use Rattle.schedules.specs.Plans.{Lags, Wide, Schedule}
 use Rattle.rows.specs.MaxPlus.{added}
 use Rattle.schedules.specs.Rounds.{rounds, opening, Settled}
-use Rattle.schedules.proofs.Optional.{Rowed, AtLeast}
+use Rattle.schedules.proofs.Optional.{WideRow, AtLeast}
 use Rattle.schedules.proofs.Under.{opening_stays}
 use Rattle.schedules.proofs.Rounds.{rounds_sized, opening_sized, Settled-covers}
 
@@ -29,7 +30,7 @@ abbrev pub pushed_row : Row → Row → Option Row → Row
 pushed_row y d None = minus y d
 pushed_row y d (Some r) = r
 
-pushed_wide : (w : ℕ) (y d : Row) (o : Option Row) → length y ≡ w → length d ≡ w → Rowed w o → length (pushed_row y d o) ≡ w
+pushed_wide : (w : ℕ) (y d : Row) (o : Option Row) → length y ≡ w → length d ≡ w → WideRow w o → length (pushed_row y d o) ≡ w
 pushed_wide w y d None e f h = length-minus y d w e f
 pushed_wide w y d (Some r) e f h = h
 
@@ -37,7 +38,7 @@ shift_keeps : (y x a d : Row) → NotBefore y (plus x a) → NotBefore (minus y 
 shift_keeps y x a d h =
     subst (λ (z : Row). NotBefore (minus y d) z) (plus_swap x a (negated d)) (NotBefore-sum y (plus x a) (negated d) h)
 
-pushed_keeps : (w : ℕ) (y x a d : Row) (p o : Option Row) → length y ≡ w → length d ≡ w → Rowed w p → NotBefore y (plus x a) → ((r : Row) → p ≡ Some r → NotBefore d (minus y r)) → AtLeast p (added o (Some a)) → NotBefore (pushed_row y d p) (plus (pushed_row x d o) a)
+pushed_keeps : (w : ℕ) (y x a d : Row) (p o : Option Row) → length y ≡ w → length d ≡ w → WideRow w p → NotBefore y (plus x a) → ((r : Row) → p ≡ Some r → NotBefore d (minus y r)) → AtLeast p (added o (Some a)) → NotBefore (pushed_row y d p) (plus (pushed_row x d o) a)
 pushed_keeps w y x a d None None e f g k far c = shift_keeps y x a d k
 pushed_keeps w y x a d None (Some t) e f g k far c = absurd c
 pushed_keeps w y x a d (Some r) None e f g k far c =
@@ -51,7 +52,9 @@ Far w m L k y d = (v : ℕ) (r : Row) → v < m → rounds m L (opening w) k v �
 module _ (w m : ℕ) (L : Lags) (wide : Wide w m L) (first : 1 ≤ m) (k : ℕ) where
   pub pushed_schedule : Settled m L (opening w) k → (y : ℕ → Row) → Schedule w m L y → (d : Row) → length d ≡ w → Far w m L k y d → Schedule w m L (λ v. pushed_row (y v) d (rounds m L (opening w) k v))
   pushed_schedule f y s d e far = record {
-    wide = λ v v_in. pushed_wide w (y v) d (rounds m L (opening w) k v) (s.wide v v_in) e (rounds_sized w m L wide (opening w) (opening_sized w m) k v v_in);
+    keeping = record {
+      wide = λ v v_in. pushed_wide w (y v) d (rounds m L (opening w) k v) (s.keeping.wide v v_in) e (rounds_sized w m L wide (opening w) (opening_sized w m) k v v_in);
+      keeps = λ v u a v_in u_in l. pushed_keeps w (y v) (y u) a d (rounds m L (opening w) k v) (rounds m L (opening w) k u) (s.keeping.wide v v_in) e (rounds_sized w m L wide (opening w) (opening_sized w m) k v v_in) (s.keeping.keeps v u a v_in u_in l) (λ r h. far v r v_in h) (subst (λ (q : Option Row). AtLeast (rounds m L (opening w) k v) (added (rounds m L (opening w) k u) q)) l (Settled-covers w m L wide (opening w) (opening_sized w m) k f v u v_in u_in));
+    };
     opens = ap (pushed_row (y 0) d) (opening_stays w m L wide first k y s);
-    keeps = λ v u a v_in u_in l. pushed_keeps w (y v) (y u) a d (rounds m L (opening w) k v) (rounds m L (opening w) k u) (s.wide v v_in) e (rounds_sized w m L wide (opening w) (opening_sized w m) k v v_in) (s.keeps v u a v_in u_in l) (λ r h. far v r v_in h) (subst (λ (q : Option Row). AtLeast (rounds m L (opening w) k v) (added (rounds m L (opening w) k u) q)) l (Settled-covers w m L wide (opening w) (opening_sized w m) k f v u v_in u_in));
   }

@@ -39,7 +39,8 @@ rotated m L e es (g ∷ front) f back r q c =
     let s = Chain-split m L front back g f g r (Chain-inside m L front back g f g r d) d in
     subst (λ (z : Row). Chain m L f (back ++ g ∷ front) f z) (plus_comm s.1 s.0 ∙ sym s.4) (Chain-join m L back front f g f s.1 s.0 s.3 s.2)
 
--- a closed chain of distinct events whose sum is after zero, turned so that the lowest is first, is a loop
+-- a closed chain of distinct events whose sum is after zero, turned so that the lowest is first, is
+-- a loop
 pub turned_loop : (w m : ℕ) (L : Lags) (e : ℕ) (es front : List ℕ) (f : ℕ) (back : List ℕ) (r : Row) → e ∷ es ≡ front ++ f ∷ back → Distinct (e ∷ es) → AllAbove f (back ++ front) → Chain m L e es e r → Before (zeros w) r → Loop w m L (f ∷ (back ++ front))
 turned_loop w m L e es front f back r q d a c h =
     (a, Distinct-turned front f back (subst Distinct q d), (r, (rotated m L e es front f back r q c, h)))

@@ -1,14 +1,14 @@
 -- Settled totals from everywhere are a schedule, once shifted so that the opening is at zero.
 use Rattle.std.proofs.Common.{◌≡◌, ℕ, ◌<◌, ◌≤◌, length, Some, None, Option, subst, arith}
 use Rattle.rows.specs.Rows.{Row, zeros, plus, minus, NotBefore}
-use Rattle.schedules.specs.Plans.{Lags, Wide, Times, Schedule, Schedulable}
+use Rattle.schedules.specs.Plans.{Lags, Wide, KeepsLags, Schedule, Schedulable}
 use Rattle.rows.specs.MaxPlus.{added}
 use Rattle.schedules.specs.Rounds.{rounds, everywhere, total_of, Settled}
-use Rattle.schedules.proofs.Optional.{Rowed, AtLeast}
+use Rattle.schedules.proofs.Optional.{WideRow, AtLeast}
 use Rattle.schedules.proofs.Rounds.{rounds_sized, everywhere_sized, rounds_mono, Settled-covers}
 use Rattle.schedules.proofs.Times.{opened}
 
-pub total_sized : (w : ℕ) (o : Option Row) (y : Row) → AtLeast o (Some y) → Rowed w o → length (total_of w o) ≡ w
+pub total_sized : (w : ℕ) (o : Option Row) (y : Row) → AtLeast o (Some y) → WideRow w o → length (total_of w o) ≡ w
 total_sized w None y h e = absurd h
 total_sized w (Some x) y h e = e
 
@@ -22,7 +22,7 @@ module _ (w m : ℕ) (L : Lags) (wide : Wide w m L) (k : ℕ) where
   pub everywhere_known : (v : ℕ) → v < m → AtLeast (rounds m L (everywhere w) k v) (Some (zeros w))
   everywhere_known v v_in = rounds_mono w m L wide (everywhere w) (everywhere_sized w m) 0 k v v_in (omega arith)
 
-  pub settled_times : Settled m L (everywhere w) k → Times w m L (λ v. total_of w (rounds m L (everywhere w) k v))
+  pub settled_times : Settled m L (everywhere w) k → KeepsLags w m L (λ v. total_of w (rounds m L (everywhere w) k v))
   settled_times f = record {
     wide = λ v v_in. total_sized w (rounds m L (everywhere w) k v) (zeros w) (everywhere_known v v_in) (rounds_sized w m L wide (everywhere w) (everywhere_sized w m) k v v_in);
     keeps = λ v u a v_in u_in e. total_keeps w (rounds m L (everywhere w) k v) (rounds m L (everywhere w) k u) (L v u) a (zeros w) (everywhere_known u u_in) e (Settled-covers w m L wide (everywhere w) (everywhere_sized w m) k f v u v_in u_in);

@@ -3,20 +3,14 @@ use Rattle.std.proofs.Common.{◌≡◌, ℕ, zero, suc, ◌<◌, ◌≤◌, Som
 use Rattle.rows.specs.Rows.{Row, zeros, plus}
 use Rattle.rows.proofs.Sums.{length-plus, length-zeros}
 use Rattle.rows.proofs.Order.{NotBefore-sum, NotBefore-trans, NotBefore-same, NotBefore-antisym}
-use Rattle.schedules.specs.Plans.{Lags, Wide, Times, Schedule, Totals}
-use Rattle.rows.specs.MaxPlus.{later, added}
+use Rattle.schedules.specs.Plans.{Lags, Wide, KeepsLags, Schedule, Totals}
+use Rattle.rows.specs.MaxPlus.{added}
 use Rattle.schedules.specs.Rounds.{into, rounds, opening}
-use Rattle.rows.proofs.Tests.{later_both}
-use Rattle.schedules.proofs.Optional.{Rowed, AtLeast}
+use Rattle.schedules.proofs.Optional.{WideRow, AtLeast, later_under}
+use Rattle.schedules.proofs.Joined.{folded_holds}
 use Rattle.schedules.proofs.Rounds.{rounds_sized, opening_sized, rounds_mono}
-use Rattle.schedules.proofs.Chains.{times_of}
 
-pub later_under : (q o p : Option Row) → AtLeast q o → AtLeast q p → AtLeast q (later o p)
-later_under q None p h k = k
-later_under q (Some x) None h k = h
-later_under q (Some x) (Some y) h k = later_both (λ (z : Row). AtLeast q (Some z)) x y h k
-
-module _ (w m : ℕ) (L : Lags) (wide : Wide w m L) (x : ℕ → Row) (s : Times w m L x) where
+module _ (w m : ℕ) (L : Lags) (wide : Wide w m L) (x : ℕ → Row) (s : KeepsLags w m L x) where
   after_under : (v u : ℕ) → v < m → u < m → (t l : Option Row) → L v u ≡ l → AtLeast (Some (x u)) t → AtLeast (Some (x v)) (added t l)
   after_under v u v_in u_in None l e h = tt
   after_under v u v_in u_in (Some t) None e h = tt
@@ -24,9 +18,8 @@ module _ (w m : ℕ) (L : Lags) (wide : Wide w m L) (x : ℕ → Row) (s : Times
       NotBefore-trans (x v) (plus (x u) a) (plus t a) (s.wide v v_in ∙ sym (length-plus (x u) a w (s.wide u u_in) (wide v u a v_in u_in e))) (s.keeps v u a v_in u_in e) (NotBefore-sum (x u) t a h)
 
   into_under : (S : Totals) → ((u : ℕ) → u < m → AtLeast (Some (x u)) (S u)) → (v n : ℕ) → v < m → n ≤ m → AtLeast (Some (x v)) (into L S v n)
-  into_under S f v zero v_in le = f v v_in
-  into_under S f v (suc n) v_in le =
-      later_under (Some (x v)) (into L S v n) (added (S n) (L v n)) (into_under S f v n v_in (omega arith)) (after_under v n v_in le (S n) (L v n) refl (f n le))
+  into_under S f v n v_in le =
+      folded_holds (AtLeast (Some (x v))) (later_under (Some (x v))) (S v) n (λ u. added (S u) (L v u)) (f v v_in) (λ u h. after_under v u v_in (omega arith) (S u) (L v u) refl (f u (omega arith)))
 
   pub rounds_under : (S : Totals) → ((u : ℕ) → u < m → AtLeast (Some (x u)) (S u)) → (k v : ℕ) → v < m → AtLeast (Some (x v)) (rounds m L S k v)
   rounds_under S f zero v v_in = f v v_in
@@ -35,7 +28,7 @@ module _ (w m : ℕ) (L : Lags) (wide : Wide w m L) (x : ℕ → Row) (s : Times
 module _ (w m : ℕ) (L : Lags) (wide : Wide w m L) (first : 1 ≤ m) (k : ℕ) where
   -- no schedule has an event before its total
   pub totals_under : (x : ℕ → Row) → Schedule w m L x → (v : ℕ) → v < m → AtLeast (Some (x v)) (rounds m L (opening w) k v)
-  totals_under x s v v_in = rounds_under w m L wide x (times_of s) (opening w) start k v v_in
+  totals_under x s v v_in = rounds_under w m L wide x s.keeping (opening w) start k v v_in
     where
       start : (u : ℕ) → u < m → AtLeast (Some (x u)) (opening w u)
       start zero h = NotBefore-same (x 0) (zeros w) s.opens
@@ -45,6 +38,6 @@ module _ (w m : ℕ) (L : Lags) (wide : Wide w m L) (first : 1 ≤ m) (k : ℕ) 
   pub opening_stays : (x : ℕ → Row) → Schedule w m L x → rounds m L (opening w) k 0 ≡ Some (zeros w)
   opening_stays x s = go (rounds m L (opening w) k 0) (rounds_sized w m L wide (opening w) (opening_sized w m) k 0 first) (rounds_mono w m L wide (opening w) (opening_sized w m) 0 k 0 first (omega arith)) (subst (λ (t : Row). AtLeast (Some t) (rounds m L (opening w) k 0)) s.opens (totals_under x s 0 first))
     where
-      go : (o : Option Row) → Rowed w o → AtLeast o (Some (zeros w)) → AtLeast (Some (zeros w)) o → o ≡ Some (zeros w)
+      go : (o : Option Row) → WideRow w o → AtLeast o (Some (zeros w)) → AtLeast (Some (zeros w)) o → o ≡ Some (zeros w)
       go None d h n = absurd h
       go (Some r) d h n = ap (λ (t : Row). Some t) (NotBefore-antisym r (zeros w) (d ∙ sym (length-zeros w)) h n)

@@ -7,14 +7,15 @@ use Rattle.schedules.specs.Plans.{Lags, Wide, Chain, Has, Distinct, Totals}
 use Rattle.rows.specs.MaxPlus.{added}
 use Rattle.schedules.specs.Rounds.{rounds, Changed}
 use Rattle.schedules.specs.Walks.{Source, Traced, backs, Apart}
-use Rattle.schedules.proofs.Optional.{AtLeast, Below, below_under, below_not_at_least, after_is, Rowed-to, some_inj}
-use Rattle.schedules.proofs.Rounds.{Sized, rounds_sized, rounds_mono, round_covers, changed_rises}
+use Rattle.schedules.proofs.Optional.{AtLeast, Below, below_under, below_not_at_least, after_is, WideRow-to, some_inj}
+use Rattle.schedules.proofs.Rounds.{WideTotals, rounds_sized, rounds_mono, round_covers, changed_rises}
 
 -- p 0, p 1, .., p d are events met walking back, p 0 in round n, p 1 in round n - 1, and so on
 abbrev pub Walked : (ℕ → ℕ → ℕ) → ℕ → (ℕ → ℕ) → ℕ → Type 0
 Walked from n p d = (i : ℕ) → i < d → p (suc i) ≡ from (n - i) (p i)
 
--- The chain walked back from p c, over i events, with its sum: what is added between rounds j and g.
+-- The chain walked back from p c, over i events, with its sum: what is added between rounds j and
+-- g.
 record Stretch (m : ℕ) (L : Lags) (S : Totals) (p : ℕ → ℕ) (c g i j : ℕ) : Type 0 where
   first : Row
   sum : Row
@@ -48,7 +49,7 @@ stretch_next m L S p c g i j rest t =
       adds = longer (rounds m L S g (p c)) rest.first s.total s.lag rest.sum rest.adds (some_inj (sym rest.known ∙ s.gives));
     }
 
-module _ (w m : ℕ) (L : Lags) (wide : Wide w m L) (S : Totals) (sized : Sized w m S) where
+module _ (w m : ℕ) (L : Lags) (wide : Wide w m L) (S : Totals) (sized : WideTotals w m S) where
   -- what a changed total came from changed a round earlier
   pub source_changed : (k v u : ℕ) → v < m → Changed m L S (suc k) v → Source m L (rounds m L S (suc k)) v u (rounds m L S (suc (suc k)) v) → Changed m L S k u
   source_changed k v u v_in c s e =
@@ -114,7 +115,7 @@ module _ (w m : ℕ) (L : Lags) (wide : Wide w m L) (S : Totals) (sized : Sized 
         raised = below_under w (rounds m L S j (p c)) (rounds m L S g (p c)) (rounds m L S (suc g) (p c)) (rounds_sized w m L wide S sized j (p c) c_in) (rounds_sized w m L wide S sized g (p c) c_in) (rounds_mono w m L wide S sized j g (p c) c_in (omega arith)) (changed_rises w m L wide S sized g (p c) c_in (walk_changed c g (omega arith) (omega arith)).1)
 
         after : Before (zeros w) s.sum
-        after = raised_before w s.first s.sum (Rowed-to w (rounds m L S j (p c)) s.first known (rounds_sized w m L wide S sized j (p c) c_in)) (subst₂ (λ (o q : Option Row). Below o q) known s.adds raised)
+        after = raised_before w s.first s.sum (WideRow-to w (rounds m L S j (p c)) s.first known (rounds_sized w m L wide S sized j (p c) c_in)) (subst₂ (λ (o q : Option Row). Below o q) known s.adds raised)
 
 -- events met after p c, which are all different, are distinct
 

@@ -22,9 +22,15 @@ GreatestTimes w m L x = (e : ℕ) → e < m → GreatestTime w m L e (x e)
 
 -- a loop of the lags L in the first places of a row of events, and the other places as they were
 abbrev pub Shown : ℕ → ℕ → Lags → List ℕ → List ℕ → ℕ → Type 0
-Shown w m L row after len = (len ≤ m) × Loop w m L (take len after) × (drop len after ≡ drop len row)
+Shown w m L row after len =
+    (len ≤ m) × Loop w m L (take len after) × (drop len after ≡ drop len row)
 
 -- a schedule, and the row as it was; or a loop of that length in the row
 abbrev pub LoopSought : ℕ → ℕ → Lags → List ℕ → List ℕ → Option ℕ → Type 0
 LoopSought w m L row after None = Schedulable w m L × (after ≡ row)
 LoopSought w m L row after (Some len) = Shown w m L row after len
+
+-- the least and the greatest time of an event
+pub record Spread (w m : ℕ) (L : Lags) (e : ℕ) (least greatest : Option Row) : Type 0 where
+  pub low : LeastTime w m L e least
+  pub high : GreatestTime w m L e greatest

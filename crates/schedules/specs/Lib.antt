@@ -1,5 +1,11 @@
-pub mod Plans
 pub mod Answers
+pub mod Closest
+pub mod Folds
+pub mod Nearing
+pub mod Plans
 pub mod Rounds
-pub mod Walks
+pub mod Served
+pub mod Starts
+pub mod Tables
 pub mod Theorems
+pub mod Walks

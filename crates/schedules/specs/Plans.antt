@@ -1,4 +1,5 @@
--- What a plan's lags ask of its events: schedules, chains and loops, the least and the greatest time of an event.
+-- What a plan's lags ask of its events: schedules, chains and loops, the least and the greatest
+-- time of an event.
 use Rattle.std.specs.Prelude.{◌≡◌, ℕ, ◌<◌, cond, ◌&&◌, ◌⊎◌, List, [], ◌∷◌, length, Some, Option, ◌==◌}
 use Rattle.rows.specs.Rows.{Row, zeros, plus, Before, NotBefore, Within}
 
@@ -23,41 +24,48 @@ with_lag L v u a t s = cond (t == v && s == u) (Some a) (L t s)
 abbrev pub Wide : ℕ → ℕ → Lags → Type 0
 Wide w m L = (v u : ℕ) (a : Row) → v < m → u < m → L v u ≡ Some a → length a ≡ w
 
+-- totals as a matrix of which each column is they: `Wide w m (columns x)` says that every known
+-- total of m events has w parts
+abbrev pub columns : Totals → Lags
+columns x v u = x v
+
 -- no part of an amount is beyond b either way
 abbrev pub Limited : ℕ → ℕ → Lags → Type 0
 Limited b m L = (v u : ℕ) (a : Row) → v < m → u < m → L v u ≡ Some a → Within b a
 
 -- Times x for m events keep every lag.
-pub record Times (w m : ℕ) (L : Lags) (x : ℕ → Row) : Type 0 where
+pub record KeepsLags (w m : ℕ) (L : Lags) (x : ℕ → Row) : Type 0 where
   pub wide : (v : ℕ) → v < m → length (x v) ≡ w
-  pub keeps : (v u : ℕ) (a : Row) → v < m → u < m → L v u ≡ Some a → NotBefore (x v) (plus (x u) a)
+  pub keeps : (v u : ℕ) (a : Row) → v < m → u < m → L v u ≡ Some a
+      → NotBefore (x v) (plus (x u) a)
 
 -- Times that keep every lag, with the opening, event 0, at zero.
 pub record Schedule (w m : ℕ) (L : Lags) (x : ℕ → Row) : Type 0 where
-  pub wide : (v : ℕ) → v < m → length (x v) ≡ w
+  pub keeping : KeepsLags w m L x
   pub opens : x 0 ≡ zeros w
-  pub keeps : (v u : ℕ) (a : Row) → v < m → u < m → L v u ≡ Some a → NotBefore (x v) (plus (x u) a)
 
 abbrev pub Schedulable : ℕ → ℕ → Lags → Type 0
 Schedulable w m L = (x : ℕ → Row) × Schedule w m L x
 
 -- r is the time of event e in some schedule, and no schedule has e before r.
 pub record Earliest (w m : ℕ) (L : Lags) (e : ℕ) (r : Row) : Type 0 where
-  pub reached : (x : ℕ → Row) × (Schedule w m L x × (x e ≡ r))
+  pub attained : (x : ℕ → Row) × (Schedule w m L x × (x e ≡ r))
   pub least : (x : ℕ → Row) → Schedule w m L x → NotBefore (x e) r
 
--- Before every row some schedule has e.
+-- Before every row of the width some schedule has e.
 abbrev pub FreeBelow : ℕ → ℕ → Lags → ℕ → Type 0
-FreeBelow w m L e = (r : Row) → length r ≡ w → (x : ℕ → Row) × (Schedule w m L x × Before (x e) r)
+FreeBelow w m L e =
+    (r : Row) → length r ≡ w → (x : ℕ → Row) × (Schedule w m L x × Before (x e) r)
 
 -- r is the time of event e in some schedule, and no schedule has e after r.
 pub record Latest (w m : ℕ) (L : Lags) (e : ℕ) (r : Row) : Type 0 where
-  pub reached : (x : ℕ → Row) × (Schedule w m L x × (x e ≡ r))
+  pub attained : (x : ℕ → Row) × (Schedule w m L x × (x e ≡ r))
   pub greatest : (x : ℕ → Row) → Schedule w m L x → NotBefore r (x e)
 
--- After every row some schedule has e.
+-- After every row of the width some schedule has e.
 abbrev pub FreeAbove : ℕ → ℕ → Lags → ℕ → Type 0
-FreeAbove w m L e = (r : Row) → length r ≡ w → (x : ℕ → Row) × (Schedule w m L x × Before r (x e))
+FreeAbove w m L e =
+    (r : Row) → length r ≡ w → (x : ℕ → Row) × (Schedule w m L x × Before r (x e))
 
 -- A chain of lags leads from u to v over the events listed, and its amounts add up to r.
 abbrev pub Chain : ℕ → Lags → ℕ → List ℕ → ℕ → Row → Type 0
@@ -77,7 +85,9 @@ abbrev pub AllAbove : ℕ → List ℕ → Type 0
 AllAbove e [] = Unit {0}
 AllAbove e (x ∷ xs) = (e < x) × AllAbove e xs
 
--- Distinct events, lowest first, each joined to the next and the last to the first, whose amounts add up to more than zero.
+-- Distinct events, lowest first, each joined to the next and the last to the first, whose amounts
+-- add up to more than zero.
 abbrev pub Loop : ℕ → ℕ → Lags → List ℕ → Type 0
 Loop w m L [] = ⊥
-Loop w m L (e ∷ es) = AllAbove e es × Distinct es × ((r : Row) × (Chain m L e es e r × Before (zeros w) r))
+Loop w m L (e ∷ es) =
+    AllAbove e es × Distinct es × ((r : Row) × (Chain m L e es e r × Before (zeros w) r))

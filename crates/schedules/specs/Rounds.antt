@@ -1,13 +1,12 @@
 -- Rounds: each event's total is raised to what the lags ask, all events at once, again and again.
 use Rattle.std.specs.Prelude.{◌≡◌, ℕ, zero, suc, ◌<◌, Some, None, Option}
-use Rattle.rows.specs.MaxPlus.{later, added}
-use Rattle.rows.specs.Rows.{Row, zeros}
+use Rattle.rows.specs.MaxPlus.{later, added, folded}
+use Rattle.rows.specs.Rows.{Row, zeros, minus}
 use Rattle.schedules.specs.Plans.{Lags, Totals}
 
 -- what the totals S and the lags to v from the first n events ask of v
 abbrev pub into : Lags → Totals → ℕ → ℕ → Option Row
-into L S v zero = S v
-into L S v (suc u) = later (into L S v u) (added (S u) (L v u))
+into L S v n = folded later (S v) n (λ u. added (S u) (L v u))
 
 abbrev pub round : ℕ → Lags → Totals → Totals
 round m L S v = into L S v m
@@ -29,6 +28,10 @@ everywhere w v = Some (zeros w)
 abbrev pub total_of : ℕ → Option Row → Row
 total_of w None = zeros w
 total_of w (Some r) = r
+
+-- how far the totals S are after the opening's
+abbrev pub since_opening : ℕ → Totals → ℕ → Row
+since_opening w S v = minus (total_of w (S v)) (total_of w (S 0))
 
 -- a round more changes nothing
 abbrev pub Settled : ℕ → Lags → Totals → ℕ → Type 0

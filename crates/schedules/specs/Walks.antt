@@ -1,4 +1,5 @@
--- Walking back: from an event that the last round changed to the event that its total came from, and so on.
+-- Walking back: from an event that the last round changed to the event that its total came from,
+-- and so on.
 use Rattle.std.specs.Prelude.{◌≡◌, ℕ, zero, suc, ◌+◌, ◌-◌, ◌<◌, List, [], ◌∷◌, Some, Option, ◌≢◌}
 use Rattle.rows.specs.Rows.{Row, plus}
 use Rattle.schedules.specs.Plans.{Lags, Totals}
@@ -13,10 +14,12 @@ pub record Source (m : ℕ) (L : Lags) (S : Totals) (v u : ℕ) (o : Option Row)
   pub known : S u ≡ Some total
   pub gives : o ≡ Some (plus total lag)
 
--- Of the first n rounds: where round k + 1 changed v, its total came from the event `from (k + 1) v`.
+-- Of the first n rounds: where round k + 1 changed v, its total came from the event `from (k + 1)
+-- v`.
 abbrev pub Traced : ℕ → Lags → Totals → ℕ → (ℕ → ℕ → ℕ) → Type 0
 Traced m L S n from =
-    (k v : ℕ) → k < n → v < m → Changed m L S k v → Source m L (rounds m L S k) v (from (suc k) v) (rounds m L S (suc k) v)
+    (k v : ℕ) → k < n → v < m → Changed m L S k v
+    → Source m L (rounds m L S k) v (from (suc k) v) (rounds m L S (suc k) v)
 
 -- the walk from v in round n
 abbrev pub walk : (ℕ → ℕ → ℕ) → ℕ → ℕ → ℕ → ℕ

@@ -6,18 +6,17 @@ use Rattle.schedules.specs.Walks.{backs}
 use Rattle.schedules.proofs.Found.{get_or-backs, walk_loop}
 use Rattle.schedules.proofs.Rounds.{everywhere_sized}
 use Rattle.schedules.proofs.Walks.{walk_below}
-use Rattle.network.specs.Networks.{Net}
+use Rattle.solver.specs.Networks.{Net}
 use Rattle.schedules.specs.Answers.{LoopSought}
-use Rattle.loops.specs.Trails.{back, from_in, Leads, rotated, Written}
-use Rattle.solver.specs.Steps.{RoundsEnded}
+use Rattle.solver.specs.Trails.{back, ClosedPartIn, from_in, Leads, rotated, SettledOrTraced}
 
-module _ (w m : ℕ) (L : Lags) (net : Net w m L) (sources : List (List ℕ)) (v : ℕ) (ended : RoundsEnded w m L sources (Some v)) where
+module _ (w m : ℕ) (L : Lags) (net : Net w m L) (sources : List (List ℕ)) (v : ℕ) (ended : SettledOrTraced w m L sources (Some v)) where
   pub ended_leads : Leads m (back m sources v)
   ended_leads =
       walk_below w m L net.wide (everywhere w) (everywhere_sized w m) m (from_in sources) ended.2 (back m sources v) m (λ i h. refl) (omega arith) ended.0 net.some ended.1
 
   -- what was written is a loop, its lowest event first
-  module _ (row after : List ℕ) (len : ℕ) (wrote : Written m (back m sources v) row after len) where
+  module _ (row after : List ℕ) (len : ℕ) (wrote : ClosedPartIn m (back m sources v) row after len) where
     -- the event at a place of the loop before it is rotated
     event_at : (i j : ℕ) → suc i ≡ wrote.last - wrote.first → j < suc i → get_or (backs (back m sources v) wrote.first (suc i)) j 0 ≡ back m sources v (wrote.last - j)
     event_at i j e h =

@@ -1,3 +1,9 @@
+pub mod Backing
+pub mod Cells
 pub mod Finding
+pub mod Nets
+pub mod Raising
+pub mod Rotating
+pub mod Rounding
 pub mod Settling
 pub mod Tracing

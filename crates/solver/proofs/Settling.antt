@@ -1,6 +1,6 @@
--- Rows of totals that mean the totals of a round, from the start to the first round that changes nothing.
-use Rattle.std.proofs.Common.{◌≡◌, ℕ, suc, ◌+◌, ◌<◌, ◌≤◌, false, List, get_or, is_some, Some, None, Option, sym, ap, ◌∙◌, add-one, arith}
-use Rattle.std.specs.Option.{option_map}
+-- Rows of totals that mean the totals of a round, from the start to the first round that changes
+-- nothing.
+use Rattle.std.proofs.Common.{◌≡◌, ℕ, suc, ◌+◌, ◌<◌, ◌≤◌, false, is_some, Some, None, Option, sym, ◌∙◌, add-one, arith}
 use Rattle.std.proofs.lemmas.Bool.{true≢false}
 use Rattle.rows.specs.Rows.{Row}
 use Rattle.schedules.specs.Plans.{Lags, Totals, Schedulable}
@@ -8,10 +8,9 @@ use Rattle.schedules.specs.Rounds.{rounds, opening, Settled}
 use Rattle.schedules.proofs.Changes.{opening_settles}
 use Rattle.schedules.proofs.Earliest.{settled_earliest, settled_free}
 use Rattle.schedules.proofs.Rounds.{into_same}
-use Rattle.tables.specs.Tables.{times, Written}
-use Rattle.network.specs.Networks.{Net, SumsInside}
+use Rattle.solver.specs.Networks.{Net, SumsInside}
 use Rattle.schedules.specs.Answers.{LeastTime, LeastTimes}
-use Rattle.network.specs.Steps.{Tells, WentRound}
+use Rattle.solver.specs.Raising.{Tells, WentRound}
 
 -- the totals of the first m events are the same
 abbrev pub Alike : ℕ → Totals → Totals → Type 0
@@ -20,21 +19,15 @@ Alike m S R = (v : ℕ) → v < m → S v ≡ R v
 pub alike_inside : (m : ℕ) (L : Lags) (S R : Totals) → Alike m S R → SumsInside m L R → SumsInside m L S
 alike_inside m L S R same inside v u t a v_in u_in e l = inside v u t a v_in u_in (sym (same u u_in) ∙ e) l
 
--- one round more, copied back
-
-pub copied_alike : {A : Type 0} (n m : ℕ) (row : A → Row) (xs former ys : List (Option A)) → n ≡ m → Written (λ v. get_or xs v None) n former ys → Alike m (times row ys) (times row xs)
-copied_alike n m row xs former ys e copied v v_in = ap (option_map row) (copied.0 v (omega arith))
-
 module _ (m : ℕ) (L : Lags) (X S R : Totals) (from : ℕ → ℕ) (changed : Option ℕ) (k : ℕ) (same : Alike m S (rounds m L X k)) (went : WentRound m m L S R from changed) where
   pub round_alike : Alike m R (rounds m L X (suc k))
   round_alike v v_in = went.totals v v_in ∙ into_same m L S (rounds m L X k) same v m v_in (omega arith)
 
+  pub next_alike : Alike m R (rounds m L X (k + 1))
+  next_alike = rw add-one round_alike
+
   pub round_settled : Alike m R S → Settled m L X k
   round_settled still v v_in = sym (round_alike v v_in) ∙ still v v_in ∙ same v v_in
-
-pub next_alike : (m : ℕ) (L : Lags) (X S R Q : Totals) (from : ℕ → ℕ) (changed : Option ℕ) (k : ℕ) → Alike m S (rounds m L X k) → WentRound m m L S R from changed → Alike m Q R → Alike m Q (rounds m L X (k + 1))
-next_alike m L X S R Q from changed k same went copied v v_in =
-    copied v v_in ∙ round_alike m L X S R from changed k same went v v_in ∙ ap (λ (i : ℕ). rounds m L X i v) (sym (add-one k))
 
 -- a round that tells of no change changed nothing
 none_changed : (m : ℕ) (S R : Totals) (changed : Option ℕ) → is_some changed ≡ false → Tells m S R changed → Alike m R S
@@ -53,9 +46,10 @@ module _ (w m : ℕ) (L : Lags) (net : Net w m L) (some : 1 ≤ w) (plan : Sched
 
   module _ (k : ℕ) (S : Totals) (same : Alike m S (rounds m L (opening w) k)) where
     -- a round that changes nothing
-    pub still_least : (R : Totals) (from : ℕ → ℕ) (changed : Option ℕ) → is_some changed ≡ false → WentRound m m L S R from changed → LeastTimes w m L S
+    pub still_least : (R : Totals) (from : ℕ → ℕ) (changed : Option ℕ) → is_some changed ≡ false → WentRound m m L S R from changed → LeastTimes w m L R
     still_least R from changed f went =
-        settled_least k S same (round_settled m L (opening w) S R from changed k same went (none_changed m S R changed f went.tells))
+        let still = none_changed m S R changed f went.tells in
+        settled_least k R (λ v h. still v h ∙ same v h) (round_settled m L (opening w) S R from changed k same went still)
 
     -- as many rounds as settle any plan with a schedule
     pub enough_least : m ≤ k + 1 → LeastTimes w m L S

@@ -5,10 +5,9 @@ use Rattle.schedules.specs.Plans.{Lags, Totals, Schedulable}
 use Rattle.schedules.specs.Rounds.{rounds, everywhere, Changed}
 use Rattle.schedules.specs.Walks.{Source, Traced}
 use Rattle.schedules.proofs.Settled.{settled_schedulable}
-use Rattle.network.specs.Networks.{Net}
-use Rattle.network.specs.Steps.{WentRound}
-use Rattle.loops.specs.Trails.{from_in}
-use Rattle.solver.specs.Steps.{RoundsEnded}
+use Rattle.solver.specs.Networks.{Net}
+use Rattle.solver.specs.Raising.{WentRound}
+use Rattle.solver.specs.Trails.{from_in, SettledOrTraced}
 use Rattle.solver.proofs.Settling.{Alike, next_alike, round_alike, round_settled}
 
 -- round k + 1 changed the event told
@@ -16,7 +15,8 @@ abbrev pub ChangedTold : ℕ → Lags → Totals → ℕ → Option ℕ → Type
 ChangedTold m L X k None = ⊥
 ChangedTold m L X k (Some v) = (v < m) × Changed m L X k v
 
--- After k rounds from X: the totals of round k, every change traced, and an event that round k changed.
+-- After k rounds from X: the totals of round k, every change traced, and an event that round k
+-- changed.
 pub record WentRounds (m : ℕ) (L : Lags) (X S : Totals) (k : ℕ) (rows : List (List ℕ)) (last : Option ℕ) : Type 0 where
   pub same : Alike m S (rounds m L X k)
   pub traced : Traced m L X k (from_in rows)
@@ -27,7 +27,7 @@ Source-alike m L S R v u o p same e s =
     record { inside = s.inside; total = s.total; lag = s.lag; stands = s.stands; known = sym (same u s.inside) ∙ s.known; gives = sym e ∙ s.gives }
 
 module _ (m : ℕ) (L : Lags) (X : Totals) where
-  module _ (k : ℕ) (S R Q : Totals) (rows : List (List ℕ)) (row : List ℕ) (last : Option ℕ) (v : ℕ) (room : k < length rows) (before : WentRounds m L X S k rows last) (went : WentRound m m L S R (slice_index row) (Some v)) (copied : Alike m Q R) where
+  module _ (k : ℕ) (S R : Totals) (rows : List (List ℕ)) (row : List ℕ) (last : Option ℕ) (v : ℕ) (room : k < length rows) (before : WentRounds m L X S k rows last) (went : WentRound m m L S R (slice_index row) (Some v)) where
     risen : Alike m R (rounds m L X (suc k))
     risen = round_alike m L X S R (slice_index row) (Some v) k before.same went
 
@@ -53,9 +53,9 @@ module _ (m : ℕ) (L : Lags) (X : Totals) where
         below_more (λ j. e < m → Changed m L X j e → SourceIn j e (get_or (set rows k row) j [])) k (λ j h. earlier j h e) (here e) j h
 
     -- one round more
-    pub rounds_more : WentRounds m L X Q (k + 1) (set rows k row) (Some v)
+    pub rounds_more : WentRounds m L X R (k + 1) (set rows k row) (Some v)
     rounds_more = record {
-      same = next_alike m L X S R Q (slice_index row) (Some v) k before.same went copied;
+      same = next_alike m L X S R (slice_index row) (Some v) k before.same went;
       traced = traced_more;
       told = λ j e.
           let same : k ≡ j = omega arith in
@@ -74,11 +74,11 @@ module _ (w m : ℕ) (L : Lags) (net : Net w m L) where
     traced_all traced j v j_in v_in c =
         subst (λ (r : List ℕ). Source m L (rounds m L (everywhere w) j) v (slice_index r v) (rounds m L (everywhere w) (suc j) v)) (sym (kept j j_in)) (traced j v j_in v_in c)
 
-    ended_told : (last : Option ℕ) → ChangedTold m L (everywhere w) (m - 1) last → Traced m L (everywhere w) m (from_in all) → RoundsEnded w m L all last
+    ended_told : (last : Option ℕ) → ChangedTold m L (everywhere w) (m - 1) last → Traced m L (everywhere w) m (from_in all) → SettledOrTraced w m L all last
     ended_told None told traced = absurd told
     ended_told (Some v) told traced = (told.0, told.1, traced)
 
-    pub rounds_all : (k : ℕ) (last : Option ℕ) → k ≡ m → WentRounds m L (everywhere w) S k rows last → RoundsEnded w m L all last
+    pub rounds_all : (k : ℕ) (last : Option ℕ) → k ≡ m → WentRounds m L (everywhere w) S k rows last → SettledOrTraced w m L all last
     rounds_all k last e h =
         let some : 1 ≤ m = net.some in
         let went = subst (λ (i : ℕ). WentRounds m L (everywhere w) S i rows last) e h in

@@ -1,30 +1,30 @@
 // The least time of every event.
-ghost use Rattle.std.specs.Prelude.{◌≤◌, length};
-ghost use Rattle.schedules.specs.Plans.{Schedulable};
-ghost use Rattle.tables.specs.Tables.{times};
-ghost use Rattle.schedules.specs.Answers.{LeastTimes};
+ghost use Rattle.solver.specs.Solving.{AreLeast, HasSchedule};
+ghost use Rattle.solver.specs.Working.{HasRoom, SameRows};
 
+use crate::network::Network;
+use crate::rounds::{fill_totals, go_round};
+use crate::work::Work;
 use marks::kind::Mark;
-use network::net::Network;
-use network::rounds::{copy_totals, fill_totals, go_round};
 use rows::MOST_EVENTS;
 
-// Rounds from the opening alone, until one changes nothing: one fewer than there are events at the most. The totals are then the least
-// times; `next` is working memory.
-pub fn settle<N: Network>(net: &N, totals: &mut [Option<N::Kind>], next: &mut [Option<N::Kind>])
-    requires places { (N.Network.size net.now ≤ length totals.old) × (N.Network.size net.now ≤ length next.old) }
-    requires schedules { Schedulable N.Kind.Mark.wide (N.Network.size net.now) (N.Network.weight net.now) }
-    ensures { LeastTimes N.Kind.Mark.wide (N.Network.size net.now) (N.Network.weight net.now) (times N.Kind.Mark.row totals.new) }
+/// Puts the least time of every event into `work.totals`, nothing where the event is free. The
+/// network is one that has a schedule. What is left in `work.next` does not matter.
+// Rounds from the opening alone, until one changes nothing: fewer than there are events.
+pub fn settle<N: Network>(net: &N, work: &mut Work<'_, N::Kind>)
+    requires room { HasRoom (N.Network.size net.now) work.old }
+    requires schedule { HasSchedule N.Network N.Kind.Mark net.now }
+    ensures least { AreLeast N.Network N.Kind.Mark net.now work.new.totals.now }
+    ensures rows { SameRows work.new work.old }
 {
     let count = net.events();
     // of fixed size, since there is no heap
     let mut sources = [0; MOST_EVENTS];
-    fill_totals(count, totals, None);
-    totals[0] = Some(N::Kind::zero());
+    fill_totals(count, work.totals, None);
+    work.totals[0] = Some(N::Kind::zero());
     for _done in 0..count - 1 {
-        if go_round(net, totals, next, &mut sources).is_none() {
+        if go_round(net, work, &mut sources).is_none() {
             return;
         }
-        copy_totals(count, next, totals);
     }
 }

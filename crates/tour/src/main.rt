@@ -8,9 +8,9 @@ mod show;
 mod stamps_plan;
 
 use marks::kind::Mark;
-use minutes::{Minutes, MinutesLag};
+use marks::minutes::{Minutes, MinutesLag};
 use plan::PlanFault;
-use shared::{lay_lags, time};
+use shared::{set_lags, time};
 use show::{show_line, show_outcome, show_refusal, show_times};
 use std::io;
 
@@ -133,7 +133,7 @@ fn main(rt: HostRuntime) -> io::Result<()> {
     let mut table = [None; EVENTS * EVENTS];
     println!(rt; "open a plan of {STAGES} stages")?;
     show_outcome(&rt, plan::open::<Minutes>(STAGES, &mut table))?;
-    lay_lags(EVENTS, &mut table, &LAGS);
+    set_lags(&rt, STAGES, &mut table, &LAGS)?;
     work_back(&rt, &table)?;
     edit(&rt, &mut table)?;
     println!(rt; "drop the lag to event 9 from event 0")?;

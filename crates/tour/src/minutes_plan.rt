@@ -1,9 +1,10 @@
-// A plan of two stages in minutes, built by set: its earliest and latest times, and a due date tightened until it contradicts.
+// A plan of two stages in minutes, built by set: its earliest and latest times, and a due date
+// tightened until it contradicts.
 use crate::shared::set_lag;
 use crate::show::{show_outcome, show_refusal, show_times};
-use minutes::{Minutes, MinutesLag};
+use marks::minutes::{Minutes, MinutesLag};
+use marks::turned::Turned;
 use std::io;
-use turned::Turned;
 
 const STAGES: usize = 2;
 
@@ -11,8 +12,8 @@ const EVENTS: usize = 5;
 
 const ALL: [usize; EVENTS] = [0, 1, 2, 3, 4];
 
-// To, from, minutes: stage 1 lasts at least 120, stage 2 at least 90, and stage 2 follows stage 1 by 30 at its start and by 45 at its
-// finish; not before 60, due by 300.
+// To, from, minutes: stage 1 lasts at least 120, stage 2 at least 90, and stage 2 follows stage 1
+// by 30 at its start and by 45 at its finish; not before 60, due by 300.
 const LAGS: [(usize, usize, i64); 6] = [
     (2, 1, 120),
     (3, 1, 30),

@@ -1,7 +1,10 @@
 // Due times that no starts meet: the starts that come closest.
-use crate::shared::{lay_lags, time};
+use crate::shared::{set_lags, time};
 use crate::show::{show_refusal, show_times};
+use marks::minutes::Minutes;
 use std::io;
+
+const STAGES: usize = 2;
 
 const EVENTS: usize = 5;
 
@@ -10,12 +13,15 @@ const LAGS: [(usize, usize, i64); 4] = [(2, 1, 5), (2, 3, 5), (4, 1, 5), (4, 3, 
 
 pub fn walk(rt: &HostRuntime) -> io::Result<()> {
     let mut table = [None; EVENTS * EVENTS];
-    lay_lags(EVENTS, &mut table, &LAGS);
+    if let Err(fault) = plan::open::<Minutes>(STAGES, &mut table) {
+        return show_refusal(rt, fault);
+    }
+    set_lags(rt, STAGES, &mut table, &LAGS)?;
     let due = [None, None, time(10), None, time(13)];
     let mut starts = [None; EVENTS];
     println!(rt; "the starts closest to the due times")?;
     show_times(rt, "due", &due, &[2, 4])?;
-    match plan::closest(2, &table, &due, &mut starts) {
+    match plan::closest(STAGES, &table, &due, &mut starts) {
         Ok(distance) => println!(rt; "  the largest distance is {distance}")?,
         Err(fault) => show_refusal(rt, fault)?,
     }

@@ -1,24 +1,46 @@
-// What the walks share. The tests of plans lay lags likewise; a crate for the two would be longer than both.
-use crate::show::show_set;
+// What the walks share.
+use crate::show::{show_refusal, show_set};
 use marks::kind::Mark;
-use minutes::{Minutes, MinutesLag};
+use marks::minutes::{Minutes, MinutesLag};
 use rows::MOST_EVENTS;
 use std::io;
-use tables::layout::put_lag;
 
 pub fn time(minutes: i64) -> Option<Minutes> {
     Minutes::make_total(&[minutes])
 }
 
-// Of each lag: the event it is to, the event it is from, the minutes.
-pub fn lay_lags(count: usize, table: &mut [Option<MinutesLag>], lags: &[(usize, usize, i64)]) {
+// Sets each lag, and shows only what is refused. Of each: the event it is to, the event it is from,
+// the minutes.
+pub fn set_lags(
+    rt: &HostRuntime,
+    stages: usize,
+    table: &mut [Option<MinutesLag>],
+    lags: &[(usize, usize, i64)],
+) -> io::Result<()> {
+    let mut totals = [None; MOST_EVENTS];
+    let mut next = [None; MOST_EVENTS];
+    let mut loop_row = [0; MOST_EVENTS];
     for (to, from, minutes) in lags {
-        let lag = Minutes::make_lag(&[*minutes]).ok();
-        put_lag::<Minutes>(count, table, *to, *from, lag);
+        let parts = [*minutes];
+        let outcome = plan::set::<Minutes>(
+            stages,
+            table,
+            *to,
+            *from,
+            &parts,
+            &mut totals,
+            &mut next,
+            &mut loop_row,
+        );
+        if let Err(fault) = outcome {
+            show_refusal(rt, fault)?;
+        }
     }
+    Ok(())
 }
 
-// Sets a lag and shows how that ended. The two working rows are lent, since a local array of a type parameter gets no proof.
+// Sets a lag and shows how that ended. The two working rows are lent, since a local array of a type
+// parameter gets no proof.
 pub fn set_lag<K: Mark>(
     rt: &HostRuntime,
     stages: usize,

@@ -2,11 +2,10 @@
 ghost use Rattle.std.specs.Iterator.{IsFinite};
 
 use marks::kind::Mark;
-use minutes::Minutes;
+use marks::minutes::Minutes;
 use plan::PlanFault;
 use std::fmt::Display;
 use std::{fmt, io};
-use tables::layout::time_at;
 
 // The minutes of a time, or that it is free.
 #[derive(Clone, Copy)]
@@ -48,7 +47,9 @@ pub fn show_times(
     show_line(
         rt,
         heading,
-        events.iter().map(|event| Shown(time_at(totals, *event))),
+        events
+            .iter()
+            .map(|event| Shown(totals.get(*event).copied().flatten())),
     )
 }
 

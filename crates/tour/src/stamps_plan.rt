@@ -1,7 +1,7 @@
 // Where minutes and stamps part: lags whose minutes cancel and whose turns do not.
 use crate::shared::set_lag;
-use minutes::Minutes;
-use stamps::Stamp;
+use marks::minutes::Minutes;
+use marks::stamps::Stamp;
 use std::io;
 
 const EVENTS: usize = 3;

@@ -2,9 +2,9 @@ use Rattle.schedules.proofs.Mirrored.{mirrored_schedule, mirrored_schedulable, m
 use Rattle.schedules.proofs.reversal_mirrors.Goals as goal
 
 pub returns : goal.returns
-returns c = record {
-  schedule = mirrored_schedule;
-  schedulable = mirrored_schedulable;
-  latest = mirrored_latest;
-  free = mirrored_free;
+returns c = λ w m L wide. record {
+  schedule = mirrored_schedule w m L wide;
+  schedulable = mirrored_schedulable w m L wide;
+  latest = mirrored_latest w m L wide;
+  free = mirrored_free w m L wide;
 }

@@ -5,6 +5,13 @@ use Rattle.schedules.proofs.times_are_exact.Goals as goal
 
 pub returns : goal.returns
 returns c = record {
-  least = record { settles = opening_settles; earliest = settled_earliest; free = settled_free };
-  greatest = record { latest = settled_latest; free = settled_free_above };
+  least = λ w m L wide first plan. record {
+    settles = opening_settles w m L wide first plan;
+    earliest = λ k f. settled_earliest w m L wide first k f plan;
+    free = λ k f some. settled_free w m L wide first k f some plan;
+  };
+  greatest = λ w m L wide first plan. record {
+    latest = λ k f. settled_latest w m L wide first k f plan;
+    free = λ k f some. settled_free_above w m L wide first k f some plan;
+  };
 }

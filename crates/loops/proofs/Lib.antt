@@ -1,2 +1,0 @@
-pub mod Backing
-pub mod Rotating

@@ -1,0 +1,5 @@
+use Rattle.std.proofs.Common.{rules}
+use Rattle.marks.proofs.stamps.StampMark.add.Goals as goal
+
+pub returns : goal.returns
+returns c = c.of.ensures _ _ (search rules) (search rules)

@@ -1,4 +1,0 @@
-pub mod Cells
-pub mod Nets
-pub mod Raising
-pub mod Rounding

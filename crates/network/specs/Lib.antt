@@ -1,2 +1,0 @@
-pub mod Networks
-pub mod Steps

@@ -1,0 +1,11 @@
+pub mod Calls
+pub mod Checks
+pub mod Endings
+pub mod Faults
+pub mod Filling
+pub mod Keeping
+pub mod Masks
+pub mod Mirror
+pub mod Passing
+pub mod Timed
+pub mod Waiting

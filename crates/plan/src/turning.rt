@@ -1,0 +1,30 @@
+// From turned totals back to those that they turn.
+ghost use Rattle.std.specs.Prelude.{◌≡◌, ◌≤◌, length, None, slice_index_or};
+ghost use Rattle.std.specs.Option.{option_map};
+ghost use Rattle.schedules.specs.Tables.{Overwritten};
+
+use marks::kind::Mark;
+use marks::turned::Turned;
+
+// The inner totals of the first places.
+pub(crate) fn turn_back<K: Mark>(
+    count: usize,
+    turned: &[Option<Turned<K>>],
+    totals: &mut [Option<K>],
+)
+    requires { (count ≤ length turned.now) × (count ≤ length totals.old) }
+    ensures { Overwritten (λ e. option_map (λ t. t.inner) (slice_index_or turned.now e None)) count
+        totals.old totals.new }
+{
+    // by the event: of a zip of both rows no invariant can name the row that is written
+    for (event, total) in totals[..count].iter_mut().enumerate() {
+        *total = inner_of(turned[event]);
+    }
+}
+
+// Named, since two functions need it.
+pub(crate) fn inner_of<K: Mark>(total: Option<Turned<K>>) -> Option<K>
+    ensures { result ≡ option_map (λ t. t.inner) total }
+{
+    total.map(|turned| turned.inner)
+}

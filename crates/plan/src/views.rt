@@ -1,0 +1,64 @@
+// A table of lags seen as a network.
+ghost use Rattle.std.specs.Prelude.{◌≡◌};
+ghost use Rattle.plan.specs.Passing.{lags_of};
+ghost use Rattle.schedules.specs.Plans.{reversed};
+ghost use Rattle.solver.proofs.Nets.{table_net, reversed_net};
+
+use crate::table::Table;
+use marks::kind::Mark;
+use marks::turned::Turned;
+use solver::network::Network;
+
+// Each lag in its own direction.
+#[derive(Drop)]
+pub(crate) struct Forward<'a, K: Mark> {
+    pub(crate) table: &'a Table<'a, K>,
+}
+
+impl<'a, K: Mark> Network for Forward<'a, K> {
+    type Kind = K;
+
+    ghost size = { λ view. view.table.now.count };
+
+    ghost weight = { λ view. lags_of view.table.now };
+
+    ghost sound = { λ view.
+        table_net K.Mark.WIDTH view.table.now.count K.Mark.amount view.table.now.lags.now
+        K.Mark.amount_wide K.Mark.amount_limit view.table.now.some view.table.now.few };
+
+    fn events(&self) -> usize {
+        self.table.count
+    }
+
+    fn follow(&self, total: K, to: usize, from: usize) -> Option<K> {
+        total.add(self.table.lag(to, from)?)
+    }
+}
+
+// The same table with every direction reversed, over turned marks: its least times are the greatest
+// times of the plan, with every sign changed. A type of its own, since its totals are of another
+// kind.
+#[derive(Drop)]
+pub(crate) struct Reversed<'a, K: Mark> {
+    pub(crate) table: &'a Table<'a, K>,
+}
+
+impl<'a, K: Mark> Network for Reversed<'a, K> {
+    type Kind = Turned<K>;
+
+    ghost size = { λ view. view.table.now.count };
+
+    ghost weight = { λ view. reversed (lags_of view.table.now) };
+
+    ghost sound = { λ view.
+        reversed_net K.Mark.WIDTH view.table.now.count K.Mark.amount view.table.now.lags.now
+        K.Mark.amount_wide K.Mark.amount_limit view.table.now.some view.table.now.few };
+
+    fn events(&self) -> usize {
+        self.table.count
+    }
+
+    fn follow(&self, total: Turned<K>, to: usize, from: usize) -> Option<Turned<K>> {
+        total.add(self.table.lag(from, to)?)
+    }
+}

@@ -1,3 +1,0 @@
-pub mod Answered
-pub mod Following
-pub mod Setting

@@ -1,2 +1,0 @@
-pub mod Passing
-pub mod Putting

@@ -1,0 +1,7 @@
+use Rattle.std.proofs.Common.{arith}
+use Rattle.solver.proofs.Rotating.{written_is}
+use Rattle.solver.proofs.walk.write_loop.Goals as goal
+
+pub returns : goal.returns
+returns c =
+    written_is _ _ _ _ _ _ _ c.walk_back-first.ensures.met c.walk_back-first.ensures.holds (omega (arith, c.walk_back-first.ensures.met.short)) c.write_circle.ensures

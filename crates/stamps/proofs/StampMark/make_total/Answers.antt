@@ -1,7 +1,0 @@
-use Rattle.std.proofs.Common.{arith, rules}
-use Rattle.rows.specs.Limits.{total_limit}
-use Rattle.stamps.proofs.Pairs.{pair_made}
-use Rattle.stamps.proofs.StampMark.make_total.Goals as goal
-
-pub returns : goal.returns
-returns c = pair_made total_limit _ _ _ (omega arith) (search rules) (search rules)

@@ -1,5 +1,0 @@
-use Rattle.starts.specs.Steps.{Staged}
-use Rattle.starts.proofs.arrivals.write_stages.Given as goal
-
-abbrev pub invariant-loop-stage : goal.invariant-loop-stage
-invariant-loop-stage g l = Staged (goal.F-post g l.times_of) l.stage l.fn.row l.row

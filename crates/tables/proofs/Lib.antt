@@ -1,5 +1,0 @@
-pub mod Meanings
-pub mod Passed
-pub mod Places
-pub mod TableRule
-pub mod Writing

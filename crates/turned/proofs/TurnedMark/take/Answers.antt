@@ -1,8 +1,0 @@
-use Rattle.std.proofs.Common.{rules}
-use Rattle.rows.proofs.Sums.{negated-plus}
-use Rattle.turned.proofs.Turning.{sum_turned}
-use Rattle.turned.proofs.TurnedMark.take.Goals as goal
-
-pub returns : goal.returns
-returns g c =
-    sum_turned g.M.Mark.row _ _ c.add.result c.map.result (search rules) (negated-plus (g.M.Mark.row c.args.self.inner) (g.M.Mark.amount c.args.lag)) c.add.ensures

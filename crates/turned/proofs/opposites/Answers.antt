@@ -1,7 +1,0 @@
-use Rattle.std.proofs.Common.{arith}
-use Rattle.turned.proofs.Turning.{all_opposite_at}
-use Rattle.turned.proofs.opposites.Goals as goal
-
-pub returns : goal.returns
-returns c =
-    all_opposite_at c.args.parts.now c.loop-i.turned (omega arith) (λ k h. c.loop-i.invariant.1 k (omega arith))

@@ -1,2 +1,0 @@
-pub mod Mirroring
-pub mod Solving
