@@ -1,4 +1,5 @@
 pub mod Answering
+pub mod Firsts
 pub mod Halves
 pub mod Order
 pub mod Powers

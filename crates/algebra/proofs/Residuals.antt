@@ -9,8 +9,8 @@ use Rattle.rows.specs.Rows.{Row, plus, minus, negated, NotBefore}
 use Rattle.rows.proofs.Extremes.{latest_folded}
 use Rattle.rows.proofs.Order.{NotBefore-antisym, NotBefore-negated}
 use Rattle.rows.proofs.Sums.{length-negated, negated-negated, negated-plus, plus_comm}
-use Rattle.schedules.specs.Plans.{Lags, Totals, Wide, columns}
-use Rattle.schedules.proofs.Optional.{WideRow, AtLeast, WideRow-from, WideRow-to, after_rowed, AtLeast-trans}
+use Rattle.schedules.specs.Plans.{Lags, Totals, Wide, columns, AtLeast}
+use Rattle.schedules.proofs.Optional.{WideRow, WideRow-from, WideRow-to, after_rowed, AtLeast-trans}
 use Rattle.schedules.specs.Tables.{start, finish, events}
 use Rattle.schedules.specs.Starts.{Finishes, Backward}
 use Rattle.schedules.proofs.Backwards.{not_after_sum, not_after_difference, backward}

@@ -3,9 +3,10 @@ use Rattle.std.specs.Prelude.{◌≡◌, ℕ, suc, ◌+◌, ◌/◌, ◌<◌, �
 use Rattle.std.specs.Option.{option_map}
 use Rattle.rows.specs.Rows.{Row, negated}
 use Rattle.schedules.specs.Answers.{LeastTime, GreatestTime}
-use Rattle.schedules.specs.Plans.{Lags, Totals, Wide, columns, Schedulable}
+use Rattle.schedules.specs.Firsts.{LeastFrom}
+use Rattle.schedules.specs.Plans.{Lags, Totals, Wide, columns, KeepsLags, Schedulable}
 use Rattle.schedules.specs.Tables.{events}
-use Rattle.schedules.specs.Rounds.{rounds, opening}
+use Rattle.schedules.specs.Rounds.{rounds, opening, Settled}
 use Rattle.schedules.specs.Starts.{Finishes, Backward}
 use Rattle.schedules.specs.Closest.{minutes, Closest}
 use Rattle.rows.specs.Algebra.{◌⊗◌, ◌≼◌, Vector, Matrix, matrix_vector, vector_vector, powers, Star, transpose, conjugate, residual}
@@ -14,6 +15,12 @@ use Rattle.algebra.specs.Matrices.{lag_matrix, starts_of, finishes_of}
 -- every one of the n entries is there
 abbrev pub Full : ℕ → Vector → Type 0
 Full n x = (i : ℕ) → i < n → (r : Row) × (x i ≡ Some r)
+
+-- k rounds from any first totals b are (I ⊕ A ⊕ .. ⊕ A^k) ⊗ b, of every plan.
+abbrev pub RoundsAreProducts : Type 0
+RoundsAreProducts =
+    (w m : ℕ) (A : Matrix) (b : Vector) → Wide w m A → Wide w m (columns b) → (k e : ℕ) → e < m
+    → rounds m A b k e ≡ matrix_vector m (powers w m A k) b e
 
 -- k rounds from the opening are the opening's column of I ⊕ A ⊕ .. ⊕ A^k, of every plan.
 abbrev pub RoundsArePowers : Type 0
@@ -32,6 +39,22 @@ pub record LeastByStar (w m : ℕ) (A : Matrix) : Type 0 where
 abbrev pub EarliestIsStar : Type 0
 EarliestIsStar =
     (w m : ℕ) (A : Matrix) → Wide w m A → 1 ≤ m → Schedulable w m A → LeastByStar w m A
+
+-- A* is I ⊕ A ⊕ .. ⊕ A^k from k = m - 1 on, rounds from the first totals b settle at A* ⊗ b, and
+-- this is the least of all times that keep the lags and are nowhere before b; absent where such
+-- times may be before every row.
+pub record LeastFromByStar (w m : ℕ) (A : Matrix) (b : Vector) : Type 0 where
+  pub star : (k : ℕ) → m ≤ suc k → Star w m A (powers w m A k)
+  pub settled : (S : Matrix) → Star w m A S → (k e : ℕ) → e < m → Settled m A b k
+      → rounds m A b k e ≡ matrix_vector m S b e
+  pub least : (S : Matrix) → 1 ≤ w → Star w m A S → (x : Vector)
+      → LeastFrom w m A b x ↔ ((e : ℕ) → e < m → x e ≡ matrix_vector m S b e)
+
+-- so it is in every plan that some times y keep
+abbrev pub LeastFromIsStar : Type 0
+LeastFromIsStar =
+    (w m : ℕ) (A : Matrix) (b : Vector) → Wide w m A → Wide w m (columns b) → 1 ≤ m
+    → (y : ℕ → Row) → KeepsLags w m A y → LeastFromByStar w m A b
 
 -- The greatest times are those of the transposed matrix, with every sign changed.
 pub record GreatestByStar (w m : ℕ) (A : Matrix) : Type 0 where

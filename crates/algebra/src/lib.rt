@@ -1,9 +1,14 @@
 // The max-plus algebra: what the calls answer, as products, powers and residuals of matrices.
 #![tactic(auto)]
 
-ghost use Rattle.algebra.specs.Theorems.{RoundsArePowers, EarliestIsStar, LatestIsStar, FinishIsProduct, BackwardIsResidual, ClosestIsResidual};
+ghost use Rattle.algebra.specs.Theorems.{RoundsAreProducts, RoundsArePowers, EarliestIsStar, LeastFromIsStar, LatestIsStar, FinishIsProduct, BackwardIsResidual, ClosestIsResidual};
 
-/// The solver's rounds are sums of powers.
+/// The solver's rounds from any first totals are these times a sum of powers.
+pub fn rounds_are_products()
+    ensures { RoundsAreProducts }
+{}
+
+/// From the opening alone they are its column of the sum of powers.
 pub fn rounds_are_powers()
     ensures { RoundsArePowers }
 {}
@@ -11,6 +16,11 @@ pub fn rounds_are_powers()
 /// The least times are the opening's column of A*.
 pub fn earliest_is_star()
     ensures { EarliestIsStar }
+{}
+
+/// The least times from any first totals b are A* ⊗ b.
+pub fn least_from_is_star()
+    ensures { LeastFromIsStar }
 {}
 
 /// The greatest times are those of the transposed matrix, with every sign changed.

@@ -1,8 +1,7 @@
 -- Rows, from the numbers that are stored for their parts.
-use Rattle.std.proofs.Common.{◌≡◌, ℕ, zero, suc, ◌+◌, ◌<◌, Bool, ◌&&◌, [], ◌∷◌, length, get_or, map, drop, ℤ, pos, ◌<ℤ◌, int_cmp, Some, None, Option, Ordering, Less, Equal, Greater, sym, refl, ap, ◌∙◌, subst, inl, inr, arith}
-use Rattle.std.specs.Cmp.Lexicographic.{slice_cmp}
+use Rattle.std.proofs.Common.{◌≡◌, ℕ, zero, suc, ◌+◌, ◌<◌, Bool, ◌&&◌, [], ◌∷◌, length, get_or, map, drop, ℤ, pos, int_cmp, Some, None, Option, Ordering, Less, Equal, Greater, sym, refl, ap, ◌∙◌, subst, inl, inr, arith}
 use Rattle.std.specs.List.{range_with_len}
-use Rattle.std.specs.Ordering.{MatchOrdering, ordering_then}
+use Rattle.std.specs.Ordering.{MatchOrdering}
 use Rattle.std.proofs.lemmas.Cmp.{int_ranked}
 use Rattle.std.proofs.lemmas.List.FromFn.{fill_by_all}
 use Rattle.rows.specs.Rows.{Row, Within, bounded, inside}
@@ -30,21 +29,14 @@ row_made w limit xs row e h =
     let back = sym (parts_read w xs e) in
     ((e, subst (Within limit) back h.0), h.1 ∙ back)
 
--- rows are ordered as lists of numbers are
+-- rows of two parts are ordered by the first, and where that is the same by the second
 
-first_ranked : (o r : Ordering) (x y : ℤ) (xs ys : Row) → MatchOrdering o (x <ℤ y) (x ≡ y) (y <ℤ x) → Ranked xs ys r → Ranked (x ∷ xs) (y ∷ ys) (ordering_then o r)
-first_ranked Less r x y xs ys h k = inl h
-first_ranked Equal Less x y xs ys h k = inr (h, k)
-first_ranked Equal Equal x y xs ys h k = cons≡ h k
-first_ranked Equal Greater x y xs ys h k = inr (sym h, k)
-first_ranked Greater r x y xs ys h k = inl h
-
-pub rows_ranked : (xs ys : Row) → length xs ≡ length ys → Ranked xs ys (slice_cmp int_cmp xs ys)
-rows_ranked [] [] e = refl
-rows_ranked [] (y ∷ ys) e = absurd (omega arith)
-rows_ranked (x ∷ xs) [] e = absurd (omega arith)
-rows_ranked (x ∷ xs) (y ∷ ys) e =
-    first_ranked (int_cmp x y) (slice_cmp int_cmp xs ys) x y xs ys (int_ranked x y (int_cmp x y) refl) (rows_ranked xs ys (omega arith))
+pub pair_ranked : (x y z w : ℤ) (first r : Ordering) → first ≡ int_cmp x y → MatchOrdering first (r ≡ Less) (r ≡ int_cmp z w) (r ≡ Greater) → Ranked (x ∷ z ∷ []) (y ∷ w ∷ []) r
+pair_ranked x y z w Less r h k = rw k (inl (int_ranked x y Less h))
+pair_ranked x y z w Equal Less h k = inr (int_ranked x y Equal h, inl (int_ranked z w Less k))
+pair_ranked x y z w Equal Equal h k = cons≡ (int_ranked x y Equal h) (cons≡ (int_ranked z w Equal k) refl)
+pair_ranked x y z w Equal Greater h k = inr (sym (int_ranked x y Equal h), inl (int_ranked z w Greater k))
+pair_ranked x y z w Greater r h k = rw k (inl (int_ranked x y Greater h))
 
 -- what stands at a numbered part
 

@@ -6,7 +6,7 @@ ghost use Rattle.std.proofs.Common.{rules};
 
 use crate::fault::MarkFault;
 use crate::kind::Mark;
-use crate::numbers::{Limit, add_parts, take_parts};
+use crate::numbers::{Limit, add_parts, order_parts, take_parts};
 use std::cmp::Ordering;
 
 /// A time in whole minutes. Its row has one part, the minutes; a stored number beyond the limit of
@@ -80,9 +80,7 @@ impl Mark for Minutes {
     }
 
     fn order(self, other: Minutes) -> Ordering {
-        Limit::Total
-            .clamp(self.minute)
-            .cmp(&Limit::Total.clamp(other.minute))
+        order_parts(self.minute, other.minute)
     }
 
     fn part(self, index: usize) -> Option<i64> {

@@ -7,7 +7,7 @@ ghost use Rattle.std.proofs.Common.{rules};
 
 use crate::fault::MarkFault;
 use crate::kind::Mark;
-use crate::numbers::{Limit, add_parts, take_parts};
+use crate::numbers::{Limit, add_parts, order_parts, take_parts};
 use std::cmp::Ordering;
 
 /// A time as a minute and a turn within it. Its row has these two parts, the minute first; a stored
@@ -109,9 +109,8 @@ impl Mark for Stamp {
         )
     }
 
-    #[tactic(auto, using(crate::proofs::Parts::rows_ranked))]
     fn order(self, other: Stamp) -> Ordering {
-        self.numbers().cmp(&other.numbers())
+        order_parts(self.minute, other.minute).then_with(|| order_parts(self.turn, other.turn))
     }
 
     fn part(self, index: usize) -> Option<i64> {

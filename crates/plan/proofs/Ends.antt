@@ -19,7 +19,7 @@ module _ {T A : Type 0} {kind : Ghosts T A} {n : ℕ} {table : List (Option A)} 
   at_call P h = subst₂ (λ (m : ℕ) (t : List (Option A)). P m (lags kind.amount m t)) read.laid.count read.lags h
 
   module _ (checks : List Check) (passed : first_missed checks ≡ None) (row after : List ℕ) where
-    pub grants : (P : Type 0) → Scheduled (needs_of plan [] row after) (Unit {0}) → P → Scheduled (needs_in kind n table checks row after) P
+    pub grants : {Q : Type 0} (P : Type 0) → Scheduled (needs_of plan [] row after) Q → P → Scheduled (needs_in kind n table checks row after) P
     grants P h p = record {
       none_missed = passed;
       schedule = at_call (Schedulable kind.WIDTH) h.schedule;

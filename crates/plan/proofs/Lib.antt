@@ -1,11 +1,14 @@
 pub mod Answered
 pub mod Broken
 pub mod Copying
+pub mod Counting
 pub mod Ends
 pub mod Filling
 pub mod Fits
 pub mod FoldsAt
+pub mod FromZero
 pub mod Halving
+pub mod Holding
 pub mod InAlgebra
 pub mod Lengths
 pub mod Mirroring
@@ -20,9 +23,8 @@ pub mod Refusing
 pub mod Reversing
 pub mod Serving
 pub mod SetPassing
-pub mod Setting
 pub mod TableRule
 pub mod Totals
-pub mod Visiting
+pub mod TurningLoops
 pub mod Voiding
 pub mod Writing

@@ -1,5 +1,5 @@
 -- The steps to an answer row: what is chosen over the stages, and rows written stage by stage.
-use Rattle.std.specs.Prelude.{◌≡◌, ℕ, ◌+◌, ◌*◌, ◌<◌, List, drop, None, Option, slice_index_or}
+use Rattle.std.specs.Prelude.{◌≡◌, ℕ, ◌+◌, ◌*◌, ◌<◌, List, ◌∷◌, take, drop, reverse, None, Option, slice_index_or}
 use Rattle.std.specs.Option.{option_map}
 use Rattle.rows.specs.Rows.{Row}
 use Rattle.schedules.specs.Tables.{events}
@@ -27,3 +27,10 @@ pub record Staged {T : Type 0}
       × (slice_index_or after (2 * k + 1) None ≡ r.0)
       × (slice_index_or after (2 * k + 2) None ≡ r.1)
   pub rest : drop (events n) after ≡ drop (events n) former
+
+-- The first places of the row after hold the loop of so many events that was there, read the other
+-- way round: the first event stays, and the others follow in the opposite order. The places behind
+-- them are as they were.
+pub record LoopTurned (len : ℕ) (row after : List ℕ) : Type 0 where
+  pub turned : (e : ℕ) (es : List ℕ) → take len row ≡ e ∷ es → take len after ≡ e ∷ reverse es
+  pub rest : drop len after ≡ drop len row

@@ -3,9 +3,10 @@ pub mod Checks
 pub mod Endings
 pub mod Faults
 pub mod Filling
+pub mod Holding
 pub mod Keeping
-pub mod Masks
 pub mod Mirror
 pub mod Passing
+pub mod Repairing
 pub mod Timed
 pub mod Waiting

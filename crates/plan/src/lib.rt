@@ -25,8 +25,11 @@ mod calls;
 mod checks;
 mod fault;
 mod given;
+// No call: for this library's own readers, which keep times from one lag to the next.
+pub mod repairing;
 mod solving;
 mod stages;
+mod standing;
 mod table;
 mod turning;
 mod views;

@@ -4,6 +4,7 @@ ghost use Rattle.std.specs.Prelude.{
   ◌*◌,
   ◌<◌,
   ◌≤◌,
+  ⊤,
   if◌then◌else◌,
   length,
   Some,
@@ -17,6 +18,7 @@ ghost use Rattle.schedules.specs.Tables.{events, places, place};
 
 use marks::kind::Mark;
 use rows::MOST_STAGES;
+use std::alloc::AllocError;
 
 /// A place of a table: the lag that stands there, or nothing.
 pub type Place<K> = Option<<K as Mark>::Lag>;
@@ -58,13 +60,27 @@ pub(crate) struct Table<'a, K: Mark> {
     ghost full: { length lags.now ≡ count * count },
 }
 
+// By hand, since a copy is not derived over ghost fields.
+impl<'a, K: Mark> Clone for Table<'a, K> {
+    ghost is_clone = { λ table copy. copy ≡ table };
+
+    ghost is_infallible = { λ _. ⊤ };
+
+    fn clone(&self) -> Result<Self, AllocError> {
+        Ok(*self)
+    }
+}
+
+impl<'a, K: Mark> Copy for Table<'a, K> {}
+
 impl<'a, K: Mark> Table<'a, K> {
-    // The lag to an event from another.
+    // The lag to an event from another, both of the table: its place needs no test.
     pub(crate) fn lag(&self, to: usize, from: usize) -> Option<K::Lag>
-        ensures { to < self.now.count → from < self.now.count
-            → result ≡ slice_index_or self.now.lags.now (place self.now.count to from) None }
+        requires to { to < self.now.count }
+        requires from { from < self.now.count }
+        ensures { result ≡ slice_index_or self.now.lags.now (place self.now.count to from) None }
     {
-        lag_at::<K>(self.count, self.lags, to, from)
+        self.lags[to * self.count + from]
     }
 }
 

@@ -4,27 +4,28 @@ ghost use Rattle.plan.specs.Passing.{lags_of};
 ghost use Rattle.schedules.specs.Plans.{reversed};
 ghost use Rattle.solver.proofs.Nets.{table_net, reversed_net};
 
+use crate::standing::words_of;
 use crate::table::Table;
 use marks::kind::Mark;
 use marks::turned::Turned;
-use solver::network::Network;
+use solver::network::{Network, Standing};
 
 // Each lag in its own direction.
-#[derive(Drop)]
+#[derive(Clone, Copy)]
 pub(crate) struct Forward<'a, K: Mark> {
-    pub(crate) table: &'a Table<'a, K>,
+    pub(crate) table: Table<'a, K>,
 }
 
 impl<'a, K: Mark> Network for Forward<'a, K> {
     type Kind = K;
 
-    ghost size = { λ view. view.table.now.count };
+    ghost size = { λ view. view.table.count };
 
-    ghost weight = { λ view. lags_of view.table.now };
+    ghost weight = { λ view. lags_of view.table };
 
     ghost sound = { λ view.
-        table_net K.Mark.WIDTH view.table.now.count K.Mark.amount view.table.now.lags.now
-        K.Mark.amount_wide K.Mark.amount_limit view.table.now.some view.table.now.few };
+        table_net K.Mark.WIDTH view.table.count K.Mark.amount view.table.lags.now
+        K.Mark.amount_wide K.Mark.amount_limit view.table.some view.table.few };
 
     fn events(&self) -> usize {
         self.table.count
@@ -33,26 +34,30 @@ impl<'a, K: Mark> Network for Forward<'a, K> {
     fn follow(&self, total: K, to: usize, from: usize) -> Option<K> {
         total.add(self.table.lag(to, from)?)
     }
+
+    fn stand(&self) -> Standing {
+        words_of(self.table.lags, self.table.count, 1, self.table.count)
+    }
 }
 
 // The same table with every direction reversed, over turned marks: its least times are the greatest
 // times of the plan, with every sign changed. A type of its own, since its totals are of another
 // kind.
-#[derive(Drop)]
+#[derive(Clone, Copy)]
 pub(crate) struct Reversed<'a, K: Mark> {
-    pub(crate) table: &'a Table<'a, K>,
+    pub(crate) table: Table<'a, K>,
 }
 
 impl<'a, K: Mark> Network for Reversed<'a, K> {
     type Kind = Turned<K>;
 
-    ghost size = { λ view. view.table.now.count };
+    ghost size = { λ view. view.table.count };
 
-    ghost weight = { λ view. reversed (lags_of view.table.now) };
+    ghost weight = { λ view. reversed (lags_of view.table) };
 
     ghost sound = { λ view.
-        reversed_net K.Mark.WIDTH view.table.now.count K.Mark.amount view.table.now.lags.now
-        K.Mark.amount_wide K.Mark.amount_limit view.table.now.some view.table.now.few };
+        reversed_net K.Mark.WIDTH view.table.count K.Mark.amount view.table.lags.now
+        K.Mark.amount_wide K.Mark.amount_limit view.table.some view.table.few };
 
     fn events(&self) -> usize {
         self.table.count
@@ -60,5 +65,9 @@ impl<'a, K: Mark> Network for Reversed<'a, K> {
 
     fn follow(&self, total: Turned<K>, to: usize, from: usize) -> Option<Turned<K>> {
         total.add(self.table.lag(from, to)?)
+    }
+
+    fn stand(&self) -> Standing {
+        words_of(self.table.lags, self.table.count, self.table.count, 1)
     }
 }

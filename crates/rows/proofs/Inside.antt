@@ -1,5 +1,5 @@
 -- The computed tests, from what they mean.
-use Rattle.std.proofs.Common.{◌≡◌, ℕ, true, false, ◌&&◌, ◌⊎◌, [], ◌∷◌, ℤ, pos, neg_ℤ, ◌≤ℤ◌, refl, inl, inr, arith}
+use Rattle.std.proofs.Common.{◌≡◌, ℕ, true, false, ◌⊎◌, [], ◌∷◌, ℤ, pos, neg_ℤ, ◌≤ℤ◌, refl, inl, inr, arith}
 use lib.Signed.{le_z}
 use Rattle.std.proofs.lemmas.Int.{ints}
 use Rattle.std.proofs.lemmas.Bool.{and_from, cases_Bool}

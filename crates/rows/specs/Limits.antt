@@ -30,9 +30,13 @@ most_parts = 8
 pub record Relations : Type 0 where
   -- a chain of lags over every event, and one lag more, fits into a total
   pub chain_fits : (most_events + 1) * lag_limit ≤ total_limit
+  -- so do two such chains one after the other
+  pub chains_fit : most_events * lag_limit + most_events * lag_limit ≤ total_limit
   -- a given total and a lag fit into a total
   pub given_fits : given_limit + lag_limit ≤ total_limit
-  -- so do twice a given total and four lags
+  -- so do a given total and a chain of lags over every event
+  pub given_chain_fits : given_limit + most_events * lag_limit ≤ total_limit
+  -- and so do twice a given total and four lags
   pub twice_fits : 2 * given_limit + 4 * lag_limit ≤ total_limit
   -- and the numbers stay far from the ends of 64 bits
   pub machine : total_limit + total_limit < 2 ^ 62

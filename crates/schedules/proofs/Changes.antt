@@ -2,7 +2,7 @@
 use Rattle.std.proofs.Common.{◌≡◌, ℕ, zero, suc, ◌+◌, ◌-◌, ◌<◌, ◌≤◌, ◌⊎◌, List, ◌∷◌, sym, refl, ap, ◌∙◌, subst, inl, inr, arith}
 use Rattle.std.proofs.lemmas.Bool.{cases_eq}
 use Rattle.rows.specs.Rows.{Row, zeros, Before}
-use Rattle.schedules.specs.Plans.{Lags, Wide, Schedulable, Chain, Distinct, Loop, Totals}
+use Rattle.schedules.specs.Plans.{Lags, Wide, KeepsLags, Schedulable, Chain, Distinct, Loop, Totals}
 use Rattle.schedules.specs.Rounds.{round, rounds, opening, everywhere, Settled, Changed}
 use Rattle.schedules.specs.Walks.{Source, Traced, walk, backs}
 use Rattle.schedules.proofs.Optional.{alike}
@@ -100,13 +100,16 @@ module _ (w m : ℕ) (L : Lags) (wide : Wide w m L) (first : 1 ≤ m) where
       go (inl f) = inl (settled_schedulable w m L wide (m - 1) first f)
       go (inr c) = inr (Closed-loop w m L c.event c.others c.sum c.distinct c.chain c.after)
 
-  -- with a schedule, totals from any start settle before round m
-  pub settles : (S : Totals) → WideTotals w m S → Schedulable w m L → (k : ℕ) → m ≤ suc k → Settled m L S k
-  settles S sized p k le = go (settled_or_closed w m L wide first S sized)
+  -- with times that keep the lags, totals from any start settle before round m
+  pub kept_settles : (S : Totals) → WideTotals w m S → (x : ℕ → Row) → KeepsLags w m L x → (k : ℕ) → m ≤ suc k → Settled m L S k
+  kept_settles S sized x t k le = go (settled_or_closed w m L wide first S sized)
     where
       go : Settled m L S (m - 1) ⊎ Closed w m L → Settled m L S k
       go (inl f) = Settled-from m L S (m - 1) k (omega arith) f
-      go (inr c) = absurd (closed_contradicts w m L p.0 p.1.keeping c.others c.event c.sum c.chain c.after)
+      go (inr c) = absurd (closed_contradicts w m L x t c.others c.event c.sum c.chain c.after)
+
+  pub settles : (S : Totals) → WideTotals w m S → Schedulable w m L → (k : ℕ) → m ≤ suc k → Settled m L S k
+  settles S sized p = kept_settles S sized p.0 p.1.keeping
 
   pub opening_settles : Schedulable w m L → (k : ℕ) → m ≤ suc k → Settled m L (opening w) k
   opening_settles = settles (opening w) (opening_sized w m)

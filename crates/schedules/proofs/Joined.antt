@@ -3,7 +3,8 @@ use Rattle.std.proofs.Common.{◌≡◌, ℕ, zero, suc, ◌<◌, ◌⊎◌, Som
 use Rattle.std.proofs.lemmas.Bool.{cases_eq}
 use Rattle.rows.specs.MaxPlus.{later, folded}
 use Rattle.rows.specs.Rows.{Row}
-use Rattle.schedules.proofs.Optional.{WideRow, AtLeast, AtLeast-refl, AtLeast-trans, later_rowed, later_at_left, later_at_right, later_one}
+use Rattle.schedules.specs.Plans.{AtLeast}
+use Rattle.schedules.proofs.Optional.{WideRow, AtLeast-refl, AtLeast-trans, later_rowed, later_at_left, later_at_right, later_one}
 
 -- what the later of two keeps holds of all
 pub folded_holds : (P : Option Row → Type 0) → ((o p : Option Row) → P o → P p → P (later o p)) → (a : Option Row) (n : ℕ) (f : ℕ → Option Row) → P a → ((k : ℕ) → k < n → P (f k)) → P (folded later a n f)

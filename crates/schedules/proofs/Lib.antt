@@ -1,13 +1,18 @@
 pub mod Backwards
+pub mod Came
 pub mod Chains
 pub mod Changes
+pub mod Covered
 pub mod Earliest
+pub mod Fewer
+pub mod Firsts
 pub mod Folds
 pub mod Found
 pub mod Inside
 pub mod Joined
 pub mod Largest
 pub mod Latest
+pub mod Least
 pub mod Meanings
 pub mod Members
 pub mod Mirrored
@@ -15,6 +20,8 @@ pub mod Nearest
 pub mod One
 pub mod Optional
 pub mod Pushed
+pub mod Reached
+pub mod Repairs
 pub mod Repeats
 pub mod Rotation
 pub mod Rounds

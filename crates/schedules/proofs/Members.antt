@@ -1,5 +1,6 @@
 -- Lists of events: their members, whether they are distinct, and the lowest.
-use Rattle.std.proofs.Common.{◌≡◌, ℕ, suc, ◌<◌, ◌≤◌, ◌⊎◌, List, [], ◌∷◌, ◌++◌, length, get_or, sym, refl, ap, subst, inl, inr, arith}
+use Rattle.std.proofs.Common.{◌≡◌, ℕ, suc, ◌<◌, ◌≤◌, ◌⊎◌, List, [], ◌∷◌, ◌++◌, reverse, length, get_or, sym, refl, ap, subst, inl, inr, arith}
+use mathlib.Core.List.{reverse-cons}
 use Rattle.std.proofs.lemmas.Bool.{cases_lt}
 use Rattle.schedules.specs.Plans.{Has, Distinct, AllAbove}
 
@@ -69,6 +70,35 @@ Distinct-turned front f back d =
 pub all_above : (f : ℕ) (xs : List ℕ) → ((y : ℕ) → Has y xs → f < y) → AllAbove f xs
 all_above f [] h = tt
 all_above f (x ∷ xs) h = (h x (inl refl), all_above f xs (λ y k. h y (inr k)))
+
+pub above_all : (f : ℕ) (xs : List ℕ) → AllAbove f xs → (y : ℕ) → Has y xs → f < y
+above_all f [] a y h = absurd h
+above_all f (x ∷ xs) a y (inl e) = subst (λ (z : ℕ). f < z) (sym e) a.0
+above_all f (x ∷ xs) a y (inr h) = above_all f xs a.1 y h
+
+-- events the other way round
+
+Has-reverse : (y : ℕ) (xs : List ℕ) → Has y (reverse xs) → Has y xs
+Has-reverse y [] h = h
+Has-reverse y (x ∷ xs) h =
+    go (Has-either y (reverse xs) (x ∷ []) (subst (Has y) (reverse-cons x xs) h)) (Has-reverse y xs)
+  where
+    go : Has y (reverse xs) ⊎ Has y (x ∷ []) → (Has y (reverse xs) → Has y xs) → Has y (x ∷ xs)
+    go (inl k) rest = inr (rest k)
+    go (inr (inl e)) rest = inl e
+    go (inr (inr k)) rest = absurd k
+
+pub Distinct-reverse : (xs : List ℕ) → Distinct xs → Distinct (reverse xs)
+Distinct-reverse [] d = tt
+Distinct-reverse (x ∷ xs) d =
+    subst Distinct (sym (reverse-cons x xs)) (Distinct-join (reverse xs) (x ∷ []) (Distinct-reverse xs d.1) ((λ h. h), tt) apart)
+  where
+    apart : (y : ℕ) → Has y (reverse xs) → Has y (x ∷ []) → ⊥
+    apart y h (inl e) = d.0 (subst (λ (z : ℕ). Has z xs) e (Has-reverse y xs h))
+    apart y h (inr k) = k
+
+pub AllAbove-reverse : (f : ℕ) (xs : List ℕ) → AllAbove f xs → AllAbove f (reverse xs)
+AllAbove-reverse f xs a = all_above f (reverse xs) (λ y h. above_all f xs a y (Has-reverse y xs h))
 
 -- the event left out is not among the others
 pub Distinct-but : (front : List ℕ) (f : ℕ) (back : List ℕ) → Distinct (front ++ f ∷ back) → Has f (back ++ front) → ⊥

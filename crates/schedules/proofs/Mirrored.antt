@@ -1,10 +1,14 @@
 -- The mirrored plan: lags the other way round and times with every sign changed.
-use Rattle.std.proofs.Common.{◌≡◌, ℕ, ◌↔◌, length, sym, ap, ◌∙◌, subst, subst₂}
+use Rattle.std.proofs.Common.{◌≡◌, ℕ, ◌↔◌, List, [], ◌∷◌, reverse, length, sym, ap, ◌∙◌, subst, subst₂}
+use mathlib.Core.List.{reverse-cons}
 use mathlib.Core.Path.{fun_ext}
 use Rattle.rows.specs.Rows.{Row, plus, negated, Before, NotBefore}
-use Rattle.rows.proofs.Sums.{length-negated, negated-negated, negated-zeros, negated-plus, minus_plus}
+use Rattle.rows.proofs.Sums.{length-negated, negated-negated, negated-zeros, negated-plus, plus_comm, minus_plus}
 use Rattle.rows.proofs.Order.{before_negated, NotBefore-negated, NotBefore-sum}
-use Rattle.schedules.specs.Plans.{Lags, Wide, Schedule, Schedulable, Earliest, FreeBelow, Latest, FreeAbove, reversed}
+use Rattle.schedules.specs.Plans.{Lags, Wide, Schedule, Schedulable, Earliest, FreeBelow, Latest, FreeAbove, Chain, Loop, reversed}
+use Rattle.schedules.proofs.Chains.{chain_from}
+use Rattle.schedules.proofs.Members.{Distinct-reverse, AllAbove-reverse}
+use Rattle.schedules.proofs.Rotation.{Chain-join}
 
 pub Wide-reversed : (w m : ℕ) (L : Lags) → Wide w m L → Wide w m (reversed L)
 Wide-reversed w m L wide v u a v_in u_in e = wide u v a u_in v_in e
@@ -68,3 +72,14 @@ module _ (w m : ℕ) where
 
     pub mirrored_free : (e : ℕ) → FreeAbove w m L e ↔ FreeBelow w m (reversed L) e
     mirrored_free e = (above_mirrored e, below_mirrored e)
+
+-- a chain read backwards
+Chain-reversed : (m : ℕ) (L : Lags) (es : List ℕ) (u v : ℕ) (r : Row) → Chain m (reversed L) u es v r → Chain m L v (reverse es) u r
+Chain-reversed m L [] u v r c = (c.1, c.0, c.2)
+Chain-reversed m L (t ∷ es) u v r c =
+    subst₂ (λ (xs : List ℕ) (z : Row). Chain m L v xs u z) (sym (reverse-cons t es)) (plus_comm c.1 c.0 ∙ sym c.5) (Chain-join m L (reverse es) [] v t u c.1 c.0 (Chain-reversed m L es t v c.1 c.4) (chain_from m (reversed L) es t v c.1 c.4, c.2, c.3))
+
+-- a loop of the mirrored plan, read the other way round from its first event, is a loop of the plan
+pub mirrored_loop : (w m : ℕ) (L : Lags) (e : ℕ) (es : List ℕ) → Loop w m (reversed L) (e ∷ es) → Loop w m L (e ∷ reverse es)
+mirrored_loop w m L e es l =
+    (AllAbove-reverse e es l.0, Distinct-reverse es l.1, (l.2.0, (Chain-reversed m L es e e l.2.0 l.2.1.0, l.2.1.1)))

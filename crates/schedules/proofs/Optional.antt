@@ -1,10 +1,11 @@
 -- Optional rows: their width, and their order, in which an absent row is below every other.
-use Rattle.std.proofs.Common.{◌≡◌, ℕ, ◌⊎◌, length, Some, None, Option, sym, refl, ap, ◌∙◌, subst, inl, inr}
+use Rattle.std.proofs.Common.{◌≡◌, ℕ, ◌≢◌, ◌⊎◌, length, Some, None, Option, sym, refl, ap, ◌∙◌, subst, inl, inr}
 use Rattle.rows.specs.Rows.{Row, plus, Before, NotBefore}
 use Rattle.rows.proofs.Options.{none_or_some, same_some}
 use Rattle.rows.proofs.Sums.{length-plus}
-use Rattle.rows.proofs.Order.{Compared, less, same, more, compared, before_irrefl, NotBefore-trans, then_before}
+use Rattle.rows.proofs.Order.{Compared, less, same, more, compared, before_irrefl, NotBefore-antisym, NotBefore-trans, then_before}
 use Rattle.rows.specs.MaxPlus.{later_of, both, later, added}
+use Rattle.schedules.specs.Plans.{AtLeast}
 use Rattle.rows.proofs.Tests.{Picked, yes, no, picked, later_left, later_right, later_both}
 
 pub some_inj : {x y : Row} → ◌≡◌ {A = Option Row} (Some x) (Some y) → x ≡ y
@@ -39,12 +40,6 @@ held_both P Q S f each (Some x) (Some y) h k = each x y h k
 abbrev pub WideRow : ℕ → Option Row → Type 0
 WideRow w o = Held (λ r. length r ≡ w) o
 
--- the first is not below the second
-abbrev pub AtLeast : Option Row → Option Row → Type 0
-AtLeast p None = Unit {0}
-AtLeast None (Some y) = ⊥
-AtLeast (Some x) (Some y) = NotBefore x y
-
 -- the first is below the second
 abbrev pub Below : Option Row → Option Row → Type 0
 Below p None = ⊥
@@ -66,6 +61,27 @@ AtLeast-trans w p q None d e h k = tt
 AtLeast-trans w p None (Some z) d e h k = absurd k
 AtLeast-trans w None (Some y) (Some z) d e h k = absurd h
 AtLeast-trans w (Some x) (Some y) (Some z) d e h k = NotBefore-trans x y z (d ∙ sym e) h k
+
+pub AtLeast-antisym : (w : ℕ) (p q : Option Row) → WideRow w p → WideRow w q → AtLeast p q → AtLeast q p → p ≡ q
+AtLeast-antisym w None None d e h k = refl
+AtLeast-antisym w None (Some y) d e h k = absurd h
+AtLeast-antisym w (Some x) None d e h k = absurd k
+AtLeast-antisym w (Some x) (Some y) d e h k = ap Some (NotBefore-antisym x y (d ∙ sym e) h k)
+
+-- at least what is there is there
+pub known_under : (p o : Option Row) → AtLeast p o → o ≢ None → p ≢ None
+known_under p None h n = absurd (n refl)
+known_under None (Some y) h n = absurd h
+known_under (Some x) (Some y) h n = some_none
+
+-- what is there is a row
+pub known_row : (o : Option Row) → o ≢ None → (x : Row) × (o ≡ Some x)
+known_row None n = absurd (n refl)
+known_row (Some x) n = (x, refl)
+
+pub row_under : (p : Option Row) (y : Row) → AtLeast p (Some y) → (x : Row) × (p ≡ Some x) × NotBefore x y
+row_under None y h = absurd h
+row_under (Some x) y h = (x, refl, h)
 
 -- at least a row, so there is a row
 pub below_not_at_least : (o p : Option Row) → Below o p → AtLeast o p → ⊥
@@ -142,3 +158,7 @@ after_rowed w = held_both (λ r. length r ≡ w) (λ r. length r ≡ w) (λ r. l
 
 pub after_is : (t a : Option Row) (x y : Row) → t ≡ Some x → a ≡ Some y → added t a ≡ Some (plus x y)
 after_is t a x y d e = rw (d, e)
+
+pub added_known : (o : Option Row) (a : Row) → o ≢ None → added o (Some a) ≢ None
+added_known None a n = absurd (n refl)
+added_known (Some x) a n = some_none

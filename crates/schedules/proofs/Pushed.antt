@@ -1,15 +1,15 @@
--- Totals settled from the opening make a schedule: the events reached at their totals, and the
--- others far enough down.
-use Rattle.std.proofs.Common.{◌≡◌, ℕ, ◌<◌, ◌≤◌, length, Some, None, Option, sym, refl, ap, ◌∙◌, subst, subst₂}
+-- Settled totals make times that keep the lags: the events that have a total at it, and the others
+-- far enough down.
+use Rattle.std.proofs.Common.{◌≡◌, ℕ, ◌<◌, length, Some, None, Option, sym, refl, ap, ◌∙◌, subst, subst₂, arith}
 use Rattle.rows.specs.Rows.{Row, plus, minus, negated, Before, NotBefore}
 use Rattle.rows.proofs.Sums.{length-minus, plus_assoc, plus_comm, plus_swap, minus_plus}
 use Rattle.rows.proofs.Order.{before_plus, NotBefore-sum, NotBefore-trans}
-use Rattle.schedules.specs.Plans.{Lags, Wide, Schedule}
+use Rattle.schedules.specs.Plans.{Lags, Totals, AtLeast, Wide, KeepsLags}
 use Rattle.rows.specs.MaxPlus.{added}
-use Rattle.schedules.specs.Rounds.{rounds, opening, Settled}
-use Rattle.schedules.proofs.Optional.{WideRow, AtLeast}
-use Rattle.schedules.proofs.Under.{opening_stays}
-use Rattle.schedules.proofs.Rounds.{rounds_sized, opening_sized, Settled-covers}
+use Rattle.schedules.specs.Rounds.{rounds, Settled}
+use Rattle.schedules.specs.Firsts.{NotEarlier, TimesFrom}
+use Rattle.schedules.proofs.Optional.{WideRow}
+use Rattle.schedules.proofs.Rounds.{WideTotals, rounds_sized, rounds_mono, Settled-covers}
 
 shifted_gap : (y r d : Row) → length y ≡ length r → plus (minus y r) (minus r d) ≡ minus y d
 shifted_gap y r d e = sym (plus_assoc (minus y r) r (negated d)) ∙ ap (λ (z : Row). plus z (negated d)) (minus_plus y r e)
@@ -34,6 +34,12 @@ pushed_wide : (w : ℕ) (y d : Row) (o : Option Row) → length y ≡ w → leng
 pushed_wide w y d None e f h = length-minus y d w e f
 pushed_wide w y d (Some r) e f h = h
 
+-- at least what its total is
+pushed_over : (y d : Row) (p o : Option Row) → AtLeast p o → AtLeast (Some (pushed_row y d p)) o
+pushed_over y d p None h = tt
+pushed_over y d None (Some x) h = absurd h
+pushed_over y d (Some r) (Some x) h = h
+
 shift_keeps : (y x a d : Row) → NotBefore y (plus x a) → NotBefore (minus y d) (plus (minus x d) a)
 shift_keeps y x a d h =
     subst (λ (z : Row). NotBefore (minus y d) z) (plus_swap x a (negated d)) (NotBefore-sum y (plus x a) (negated d) h)
@@ -45,16 +51,19 @@ pushed_keeps w y x a d (Some r) None e f g k far c =
     NotBefore-trans r (minus y d) (plus (minus x d) a) (g ∙ sym (length-minus y d w e f)) (gap_kept y r d (e ∙ sym g) (g ∙ sym f) (far r refl)) (shift_keeps y x a d k)
 pushed_keeps w y x a d (Some r) (Some t) e f g k far c = c
 
--- D is at least as far as each event reached stands above its total
-abbrev pub Far : ℕ → ℕ → Lags → ℕ → (ℕ → Row) → Row → Type 0
-Far w m L k y d = (v : ℕ) (r : Row) → v < m → rounds m L (opening w) k v ≡ Some r → NotBefore d (minus (y v) r)
+-- D is at least as far as each event that has a total in S stands above it
+abbrev pub Far : ℕ → Totals → (ℕ → Row) → Row → Type 0
+Far m S y d = (v : ℕ) (r : Row) → v < m → S v ≡ Some r → NotBefore d (minus (y v) r)
 
-module _ (w m : ℕ) (L : Lags) (wide : Wide w m L) (first : 1 ≤ m) (k : ℕ) where
-  pub pushed_schedule : Settled m L (opening w) k → (y : ℕ → Row) → Schedule w m L y → (d : Row) → length d ≡ w → Far w m L k y d → Schedule w m L (λ v. pushed_row (y v) d (rounds m L (opening w) k v))
-  pushed_schedule f y s d e far = record {
-    keeping = record {
-      wide = λ v v_in. pushed_wide w (y v) d (rounds m L (opening w) k v) (s.keeping.wide v v_in) e (rounds_sized w m L wide (opening w) (opening_sized w m) k v v_in);
-      keeps = λ v u a v_in u_in l. pushed_keeps w (y v) (y u) a d (rounds m L (opening w) k v) (rounds m L (opening w) k u) (s.keeping.wide v v_in) e (rounds_sized w m L wide (opening w) (opening_sized w m) k v v_in) (s.keeping.keeps v u a v_in u_in l) (λ r h. far v r v_in h) (subst (λ (q : Option Row). AtLeast (rounds m L (opening w) k v) (added (rounds m L (opening w) k u) q)) l (Settled-covers w m L wide (opening w) (opening_sized w m) k f v u v_in u_in));
-    };
-    opens = ap (pushed_row (y 0) d) (opening_stays w m L wide first k y s);
+module _ (w m : ℕ) (L : Lags) (wide : Wide w m L) (b : Totals) (sized : WideTotals w m b) (k : ℕ) (f : Settled m L b k) (y : ℕ → Row) (s : KeepsLags w m L y) where
+  pushed_times : (d : Row) → length d ≡ w → Far m (rounds m L b k) y d → KeepsLags w m L (λ v. pushed_row (y v) d (rounds m L b k v))
+  pushed_times d e far = record {
+    wide = λ v v_in. pushed_wide w (y v) d (rounds m L b k v) (s.wide v v_in) e (rounds_sized w m L wide b sized k v v_in);
+    keeps = λ v u a v_in u_in l. pushed_keeps w (y v) (y u) a d (rounds m L b k v) (rounds m L b k u) (s.wide v v_in) e (rounds_sized w m L wide b sized k v v_in) (s.keeps v u a v_in u_in l) (λ r h. far v r v_in h) (subst (λ (q : Option Row). AtLeast (rounds m L b k v) (added (rounds m L b k u) q)) l (Settled-covers w m L wide b sized k f v u v_in u_in));
   }
+
+  pushed_after : (d : Row) → NotEarlier m b (λ v. pushed_row (y v) d (rounds m L b k v))
+  pushed_after d v v_in = pushed_over (y v) d (rounds m L b k v) (b v) (rounds_mono w m L wide b sized 0 k v v_in (omega arith))
+
+  pub pushed_from : (d : Row) → length d ≡ w → Far m (rounds m L b k) y d → TimesFrom w m L b (λ v. pushed_row (y v) d (rounds m L b k v))
+  pushed_from d e far = (pushed_times d e far, pushed_after d)

@@ -1,18 +1,21 @@
 -- Rounds: totals keep their width and only rise, and a round covers what each lag asks.
-use Rattle.std.proofs.Common.{◌≡◌, ℕ, zero, suc, ◌+◌, ◌-◌, ◌<◌, ◌≤◌, ◌⊎◌, Some, Option, sym, ap, ◌∙◌, subst, inl, inr, suc-add, zero-add, arith}
+use Rattle.std.proofs.Common.{◌≡◌, ℕ, zero, suc, ◌+◌, ◌-◌, ◌<◌, ◌≤◌, ◌≢◌, ◌⊎◌, Some, None, Option, sym, ap, ◌∙◌, subst, inl, inr, suc-add, zero-add, arith}
 use Rattle.rows.specs.Rows.{Row, plus}
 use Rattle.rows.proofs.Options.{both_some}
 use Rattle.rows.proofs.Sums.{length-zeros}
-use Rattle.schedules.specs.Plans.{Lags, Wide, Totals}
+use Rattle.schedules.specs.Plans.{Lags, Wide, columns, Totals, AtLeast}
 use Rattle.rows.specs.MaxPlus.{later, added}
 use Rattle.schedules.specs.Rounds.{into, round, rounds, opening, everywhere, Settled, Changed}
 use Rattle.schedules.specs.Walks.{Source}
 use Rattle.schedules.proofs.Joined.{folded_rowed, folded_rises, folded_covers, folded_one, folded_same}
-use Rattle.schedules.proofs.Optional.{WideRow, AtLeast, Below, WideRow-from, AtLeast-refl, AtLeast-trans, above, after_rowed}
+use Rattle.schedules.proofs.Optional.{WideRow, Below, WideRow-from, AtLeast-refl, AtLeast-trans, known_under, above, after_rowed}
 
 -- every known total of the first m events has w parts
 abbrev pub WideTotals : ℕ → ℕ → Totals → Type 0
 WideTotals w m S = (v : ℕ) → v < m → WideRow w (S v)
+
+pub WideTotals-from : (w m : ℕ) (S : Totals) → Wide w m (columns S) → WideTotals w m S
+WideTotals-from w m S wide v v_in = WideRow-from w (S v) (λ r e. wide v v r v_in v_in e)
 
 pub opening_sized : (w m : ℕ) → WideTotals w m (opening w)
 opening_sized w m zero h = length-zeros w
@@ -63,6 +66,10 @@ module _ (w m : ℕ) (L : Lags) (wide : Wide w m L) where
   pub rounds_mono : (S : Totals) → WideTotals w m S → (k j v : ℕ) → v < m → k ≤ j → AtLeast (rounds m L S j v) (rounds m L S k v)
   rounds_mono S s k j v v_in le =
       subst (λ (i : ℕ). AtLeast (rounds m L S i v) (rounds m L S k v)) (omega arith) (rounds_rise S s k (j - k) v v_in)
+
+  -- a total that is there stays there
+  pub rounds_known : (S : Totals) → WideTotals w m S → (k v : ℕ) → v < m → S v ≢ None → rounds m L S k v ≢ None
+  rounds_known S s k v v_in = known_under (rounds m L S k v) (S v) (rounds_mono S s 0 k v v_in (omega arith))
 
   -- a round that changes an event raises it
   pub changed_rises : (S : Totals) → WideTotals w m S → (k v : ℕ) → v < m → Changed m L S k v → Below (rounds m L S k v) (rounds m L S (suc k) v)

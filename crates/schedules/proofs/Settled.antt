@@ -1,35 +1,43 @@
--- Settled totals from everywhere are a schedule, once shifted so that the opening is at zero.
-use Rattle.std.proofs.Common.{◌≡◌, ℕ, ◌<◌, ◌≤◌, length, Some, None, Option, subst, arith}
-use Rattle.rows.specs.Rows.{Row, zeros, plus, minus, NotBefore}
-use Rattle.schedules.specs.Plans.{Lags, Wide, KeepsLags, Schedule, Schedulable}
+-- Settled totals of which none is missing keep the lags, and are a schedule once shifted so that the
+-- opening is at zero; so are those from everywhere.
+use Rattle.std.proofs.Common.{◌≡◌, ℕ, ◌≤◌, ◌≢◌, length, Some, None, Option, refl, subst}
+use Rattle.rows.specs.Rows.{Row, plus, NotBefore}
+use Rattle.schedules.specs.Plans.{Lags, Totals, AtLeast, AllKnown, Wide, KeepsLags, Schedule, Schedulable}
 use Rattle.rows.specs.MaxPlus.{added}
-use Rattle.schedules.specs.Rounds.{rounds, everywhere, total_of, Settled}
-use Rattle.schedules.proofs.Optional.{WideRow, AtLeast}
-use Rattle.schedules.proofs.Rounds.{rounds_sized, everywhere_sized, rounds_mono, Settled-covers}
+use Rattle.schedules.specs.Rounds.{rounds, everywhere, total_of, since_opening, Settled}
+use Rattle.schedules.proofs.Optional.{WideRow, some_none}
+use Rattle.schedules.proofs.Rounds.{WideTotals, rounds_sized, everywhere_sized, rounds_known, Settled-covers}
 use Rattle.schedules.proofs.Times.{opened}
 
-pub total_sized : (w : ℕ) (o : Option Row) (y : Row) → AtLeast o (Some y) → WideRow w o → length (total_of w o) ≡ w
-total_sized w None y h e = absurd h
-total_sized w (Some x) y h e = e
+total_sized : (w : ℕ) (o : Option Row) → o ≢ None → WideRow w o → length (total_of w o) ≡ w
+total_sized w None n e = absurd (n refl)
+total_sized w (Some x) n e = e
 
-total_keeps : (w : ℕ) (p o l : Option Row) (a y : Row) → AtLeast o (Some y) → l ≡ Some a → AtLeast p (added o l) → NotBefore (total_of w p) (plus (total_of w o) a)
-total_keeps w p None l a y h e k = absurd h
-total_keeps w None (Some x) l a y h e k = absurd (subst (λ (q : Option Row). AtLeast None (added (Some x) q)) e k)
-total_keeps w (Some z) (Some x) l a y h e k = subst (λ (q : Option Row). AtLeast (Some z) (added (Some x) q)) e k
+total_keeps : (w : ℕ) (p o l : Option Row) (a : Row) → o ≢ None → l ≡ Some a → AtLeast p (added o l) → NotBefore (total_of w p) (plus (total_of w o) a)
+total_keeps w p None l a n e k = absurd (n refl)
+total_keeps w None (Some x) l a n e k = absurd (subst (λ (q : Option Row). AtLeast None (added (Some x) q)) e k)
+total_keeps w (Some z) (Some x) l a n e k = subst (λ (q : Option Row). AtLeast (Some z) (added (Some x) q)) e k
 
-module _ (w m : ℕ) (L : Lags) (wide : Wide w m L) (k : ℕ) where
-  -- every event has a total
-  pub everywhere_known : (v : ℕ) → v < m → AtLeast (rounds m L (everywhere w) k v) (Some (zeros w))
-  everywhere_known v v_in = rounds_mono w m L wide (everywhere w) (everywhere_sized w m) 0 k v v_in (omega arith)
-
-  pub settled_times : Settled m L (everywhere w) k → KeepsLags w m L (λ v. total_of w (rounds m L (everywhere w) k v))
-  settled_times f = record {
-    wide = λ v v_in. total_sized w (rounds m L (everywhere w) k v) (zeros w) (everywhere_known v v_in) (rounds_sized w m L wide (everywhere w) (everywhere_sized w m) k v v_in);
-    keeps = λ v u a v_in u_in e. total_keeps w (rounds m L (everywhere w) k v) (rounds m L (everywhere w) k u) (L v u) a (zeros w) (everywhere_known u u_in) e (Settled-covers w m L wide (everywhere w) (everywhere_sized w m) k f v u v_in u_in);
+module _ (w m : ℕ) (L : Lags) (wide : Wide w m L) (b : Totals) (sized : WideTotals w m b) (k : ℕ) (f : Settled m L b k) (known : AllKnown m (rounds m L b k)) where
+  pub known_times : KeepsLags w m L (λ v. total_of w (rounds m L b k v))
+  known_times = record {
+    wide = λ v v_in. total_sized w (rounds m L b k v) (known v v_in) (rounds_sized w m L wide b sized k v v_in);
+    keeps = λ v u a v_in u_in e. total_keeps w (rounds m L b k v) (rounds m L b k u) (L v u) a (known u u_in) e (Settled-covers w m L wide b sized k f v u v_in u_in);
   }
 
-  pub settled_schedule : 1 ≤ m → Settled m L (everywhere w) k → Schedule w m L (λ v. minus (total_of w (rounds m L (everywhere w) k v)) (total_of w (rounds m L (everywhere w) k 0)))
-  settled_schedule h f = opened w m L wide (λ v. total_of w (rounds m L (everywhere w) k v)) h (settled_times f)
+  pub known_schedule : 1 ≤ m → Schedule w m L (since_opening w (rounds m L b k))
+  known_schedule h = opened w m L wide (λ v. total_of w (rounds m L b k v)) h known_times
+
+  pub known_schedulable : 1 ≤ m → Schedulable w m L
+  known_schedulable h = (since_opening w (rounds m L b k), known_schedule h)
+
+module _ (w m : ℕ) (L : Lags) (wide : Wide w m L) (k : ℕ) where
+  -- from everywhere every event has a total
+  everywhere_known : AllKnown m (rounds m L (everywhere w) k)
+  everywhere_known v v_in = rounds_known w m L wide (everywhere w) (everywhere_sized w m) k v v_in some_none
+
+  pub settled_schedule : 1 ≤ m → Settled m L (everywhere w) k → Schedule w m L (since_opening w (rounds m L (everywhere w) k))
+  settled_schedule h f = known_schedule w m L wide (everywhere w) (everywhere_sized w m) k f everywhere_known h
 
   pub settled_schedulable : 1 ≤ m → Settled m L (everywhere w) k → Schedulable w m L
-  settled_schedulable h f = (λ v. minus (total_of w (rounds m L (everywhere w) k v)) (total_of w (rounds m L (everywhere w) k 0)), settled_schedule h f)
+  settled_schedulable h f = known_schedulable w m L wide (everywhere w) (everywhere_sized w m) k f everywhere_known h

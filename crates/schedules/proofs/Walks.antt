@@ -3,11 +3,11 @@ use Rattle.std.proofs.Common.{◌≡◌, ℕ, zero, suc, ◌+◌, ◌-◌, ◌<�
 use Rattle.rows.specs.Rows.{Row, zeros, plus, Before}
 use Rattle.rows.proofs.Sums.{plus_assoc}
 use Rattle.rows.proofs.Order.{raised_before}
-use Rattle.schedules.specs.Plans.{Lags, Wide, Chain, Has, Distinct, Totals}
+use Rattle.schedules.specs.Plans.{Lags, Wide, Chain, Has, Distinct, Totals, AtLeast}
 use Rattle.rows.specs.MaxPlus.{added}
 use Rattle.schedules.specs.Rounds.{rounds, Changed}
 use Rattle.schedules.specs.Walks.{Source, Traced, backs, Apart}
-use Rattle.schedules.proofs.Optional.{AtLeast, Below, below_under, below_not_at_least, after_is, WideRow-to, some_inj}
+use Rattle.schedules.proofs.Optional.{Below, below_under, below_not_at_least, after_is, WideRow-to, some_inj}
 use Rattle.schedules.proofs.Rounds.{WideTotals, rounds_sized, rounds_mono, round_covers, changed_rises}
 
 -- p 0, p 1, .., p d are events met walking back, p 0 in round n, p 1 in round n - 1, and so on

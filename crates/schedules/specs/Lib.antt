@@ -1,5 +1,6 @@
 pub mod Answers
 pub mod Closest
+pub mod Firsts
 pub mod Folds
 pub mod Nearing
 pub mod Plans

@@ -1,6 +1,6 @@
 -- What a plan's lags ask of its events: schedules, chains and loops, the least and the greatest
 -- time of an event.
-use Rattle.std.specs.Prelude.{◌≡◌, ℕ, ◌<◌, cond, ◌&&◌, ◌⊎◌, List, [], ◌∷◌, length, Some, Option, ◌==◌}
+use Rattle.std.specs.Prelude.{◌≡◌, ℕ, ◌<◌, Bool, cond, ◌&&◌, ◌⊎◌, List, [], ◌∷◌, length, Some, None, Option, ◌==◌, ◌≢◌}
 use Rattle.rows.specs.Rows.{Row, zeros, plus, Before, NotBefore, Within}
 
 -- The amount that stands to an event (first) from another (second), if a lag stands there.
@@ -12,6 +12,16 @@ Lags = ℕ → ℕ → Option Row
 abbrev pub Totals : Type 0
 Totals = ℕ → Option Row
 
+-- the first is at least the second: where that is known, the first is known too, and not before it
+abbrev pub AtLeast : Option Row → Option Row → Type 0
+AtLeast p None = Unit {0}
+AtLeast None (Some y) = ⊥
+AtLeast (Some x) (Some y) = NotBefore x y
+
+-- every one of m events has a total
+abbrev pub AllKnown : ℕ → Totals → Type 0
+AllKnown m S = (v : ℕ) → v < m → S v ≢ None
+
 -- the same lags, each the other way round
 abbrev pub reversed : Lags → Lags
 reversed L v u = L u v
@@ -19,6 +29,10 @@ reversed L v u = L u v
 -- the lags L with a to v from u in stead of what stood there
 abbrev pub with_lag : Lags → ℕ → ℕ → Row → Lags
 with_lag L v u a t s = cond (t == v && s == u) (Some a) (L t s)
+
+-- those of the lags L that lead into a set of events
+abbrev pub lags_into : (ℕ → Bool) → Lags → Lags
+lags_into inside L v u = cond (inside v) (L v u) None
 
 -- every amount between the first m events has w parts
 abbrev pub Wide : ℕ → ℕ → Lags → Type 0
@@ -73,6 +87,10 @@ Chain m L u [] v r = (u < m) × (v < m) × (L v u ≡ Some r)
 Chain m L u (t ∷ es) v r =
     (a : Row) × (b : Row) × (u < m) × (L t u ≡ Some a) × Chain m L t es v b × (r ≡ plus a b)
 
+-- a chain of lags leads from u to v
+abbrev pub Reaches : ℕ → Lags → ℕ → ℕ → Type 0
+Reaches m L u v = (es : List ℕ) × (r : Row) × Chain m L u es v r
+
 abbrev pub Has : ℕ → List ℕ → Type 0
 Has e [] = ⊥
 Has e (x ∷ xs) = (e ≡ x) ⊎ Has e xs
@@ -91,3 +109,7 @@ abbrev pub Loop : ℕ → ℕ → Lags → List ℕ → Type 0
 Loop w m L [] = ⊥
 Loop w m L (e ∷ es) =
     AllAbove e es × Distinct es × ((r : Row) × (Chain m L e es e r × Before (zeros w) r))
+
+-- none of the lists of events is a loop
+abbrev pub LoopFree : ℕ → ℕ → Lags → Type 0
+LoopFree w m L = (es : List ℕ) → Loop w m L es → ⊥

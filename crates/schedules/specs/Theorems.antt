@@ -1,7 +1,7 @@
 -- What is true of plans: schedules or loops, exact times, the mirrored plan, and totals inside the
 -- limits. A plan is w, m and L: the width of its rows, how many events it has, and the lags between
 -- them.
-use Rattle.std.specs.Prelude.{◌≡◌, ℕ, suc, ◌+◌, ◌*◌, ◌<◌, ◌≤◌, ◌⊎◌, ◌↔◌, List, length, Some, None}
+use Rattle.std.specs.Prelude.{◌≡◌, ℕ, suc, ◌+◌, ◌*◌, ◌<◌, ◌≤◌, ◌⊎◌, ◌↔◌, List, ◌∷◌, reverse, length, Some, None}
 use Rattle.rows.specs.Rows.{Row, plus, negated, Within}
 use Rattle.schedules.specs.Plans.{Lags, Wide, columns, Limited, KeepsLags, Schedule, Schedulable, Earliest, FreeBelow, Latest, FreeAbove, Loop, reversed, Totals}
 use Rattle.rows.specs.MaxPlus.{later_of, earlier_of}
@@ -57,13 +57,15 @@ LatestAreExact =
     (w m : ℕ) (L : Lags) → Wide w m L → 1 ≤ m → Schedulable w m L → GreatestExact w m L
 
 -- the plan with its lags the other way round has the same schedules with every sign changed, and so
--- the greatest times
+-- the greatest times, and the same loops the other way round
 pub record Mirrors (w m : ℕ) (L : Lags) : Type 0 where
   pub schedule : (x : ℕ → Row)
       → Schedule w m L x ↔ Schedule w m (reversed L) (λ v. negated (x v))
   pub schedulable : Schedulable w m L ↔ Schedulable w m (reversed L)
   pub latest : (e : ℕ) (r : Row) → Latest w m L e r ↔ Earliest w m (reversed L) e (negated r)
   pub free : (e : ℕ) → FreeAbove w m L e ↔ FreeBelow w m (reversed L) e
+  -- a loop of the reversed plan, read the other way round from its first event, is one of the plan
+  pub loop : (e : ℕ) (es : List ℕ) → Loop w m (reversed L) (e ∷ es) → Loop w m L (e ∷ reverse es)
 
 abbrev pub ReversalMirrors : Type 0
 ReversalMirrors = (w m : ℕ) (L : Lags) → Wide w m L → Mirrors w m L

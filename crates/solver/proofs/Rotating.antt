@@ -15,7 +15,7 @@ backs_is path p c (suc n) holds room =
     let here : get_or path (c + n + 1) 0 ≡ p (c + suc n) = holds (c + n + 1) (omega arith) ∙ ap p (omega arith) in
     ap (λ (k : ℕ). reverse (between (c + 1) k path)) e ∙ ap reverse (between_more path (c + 1) (c + n + 1) 0 (omega arith) (omega arith)) ∙ reverse-append (between (c + 1) (c + n + 1) path) (get_or path (c + n + 1) 0 ∷ []) ∙ ap (λ (xs : List ℕ). get_or path (c + n + 1) 0 ∷ xs) (backs_is path p c n (λ i h. holds i (omega arith)) (omega arith)) ∙ ap (λ (x : ℕ). x ∷ backs p c n) here
 
-module _ (m : ℕ) (p : ℕ → ℕ) (path row after : List ℕ) (c d : ℕ) (met : MetTwice m p c d) (holds : Holds path p d) (room : d < length path) (circled : CircledIn (between (c + 1) (d + 1) path) row after) where
+module _ (n : ℕ) (p : ℕ → ℕ) (path row after : List ℕ) (c d : ℕ) (met : MetTwice n p c d) (holds : Holds path p d) (room : d < length path) (circled : CircledIn (between (c + 1) (d + 1) path) row after) where
   order : c < d
   order = met.order
 
@@ -38,7 +38,7 @@ module _ (m : ℕ) (p : ℕ → ℕ) (path row after : List ℕ) (c d : ℕ) (me
       let at : get_or (reverse (between (c + 1) (d + 1) path)) (d - i) 0 ≡ p i = stands (d - i) (omega arith) ∙ ap p (omega arith) in
       omega (arith, stands circled.low low_in, at, (circled.lowest (omega (arith, order, count))).1 (d - i) (omega (arith, length-reverse (between (c + 1) (d + 1) path), count)))
 
-  pub written_is : ClosedPartIn m p row after (d - c)
+  pub written_is : ClosedPartIn n p row after (d - c)
   written_is = record {
     first = c;
     last = d;

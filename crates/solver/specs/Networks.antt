@@ -1,10 +1,9 @@
 -- What a network offers a solver.
 use Rattle.std.specs.Prelude.{◌≡◌, ℕ, ◌<◌, ◌≤◌, Some, None, Option}
 use Rattle.rows.specs.Rows.{Row, plus, Within}
-use Rattle.rows.specs.Limits.{total_limit, most_events}
+use Rattle.rows.specs.Limits.{lag_limit, total_limit, most_events}
 use Rattle.marks.specs.Meaning.{TotalOf}
-use Rattle.schedules.specs.Plans.{Lags, Totals, Wide}
-use Rattle.schedules.specs.Rounds.{rounds, opening, everywhere}
+use Rattle.schedules.specs.Plans.{Lags, Totals, Wide, Limited}
 
 -- The sum of a total and the lag that stands there, if any: nothing where none stands, or exactly
 -- when the sum is beyond the limit of totals.
@@ -18,15 +17,9 @@ SumsInside m L S =
     (v u : ℕ) (t a : Row) → v < m → u < m
     → S u ≡ Some t → L v u ≡ Some a → Within total_limit (plus t a)
 
--- So it is in each of m rounds, from the opening alone and from every event at zero.
-abbrev pub StaysInside : ℕ → ℕ → Lags → Type 0
-StaysInside w m L =
-    (k : ℕ) → k < m
-    → SumsInside m L (rounds m L (opening w) k) × SumsInside m L (rounds m L (everywhere w) k)
-
 -- What the solver needs of m events and the lags between them, of width w.
 pub record Net (w m : ℕ) (L : Lags) : Type 0 where
   pub some : 1 ≤ m
   pub few : m ≤ most_events
   pub wide : Wide w m L
-  pub inside : StaysInside w m L
+  pub limited : Limited lag_limit m L

@@ -1,37 +1,44 @@
 -- What a round does to each event, and the event that its total came from.
 use Rattle.std.specs.Prelude.{◌≡◌, ℕ, ◌<◌, Bool, true, Some, None, Option, ◌≢◌}
-use Rattle.rows.specs.MaxPlus.{before}
+use Rattle.std.specs.Int.{bit_at}
+use Rattle.rows.specs.MaxPlus.{before, added}
 use Rattle.rows.specs.Rows.{Row}
-use Rattle.schedules.specs.Plans.{Lags, Totals}
-use Rattle.schedules.specs.Rounds.{into, round}
+use Rattle.schedules.specs.Plans.{AtLeast, Lags, Totals}
+use Rattle.schedules.specs.Rounds.{round}
 use Rattle.schedules.specs.Walks.{Source}
+use Rattle.solver.specs.Words.{Among}
 
 -- whether x is after the best so far, if there is one
 abbrev pub beats : Row → Option Row → Bool
 beats x None = true
 beats x (Some y) = before y x
 
--- The total o of v is as it was, or it is another, which came from an event.
-abbrev pub Came : ℕ → Lags → Totals → ℕ → Option Row → Option ℕ → Type 0
-Came m L S v o None = o ≡ S v
-Came m L S v o (Some u) = (o ≢ S v) × Source m L S v u o
+-- what event u, at the total t, asks of v
+abbrev pub asked : Lags → ℕ → Row → ℕ → Option Row
+asked L u t v = added (Some t) (L v u)
 
--- What the first n events ask of v, and where it came from.
-pub record Raised
-    (m n : ℕ) (L : Lags) (S : Totals) (v : ℕ) (o : Option Row) (u : Option ℕ)
+-- The lags from event u, at the total t, were followed to each of m events, whose totals X became
+-- Y: those in the word rose to what u asks, and came from u; of the others it asks no more than
+-- they had.
+pub record Followed
+    (m : ℕ) (L : Lags) (u : ℕ) (t : Row) (X Y : Totals) (was from : ℕ → ℕ) (word : ℕ)
     : Type 0 where
-  pub total : o ≡ into L S v n
-  pub came : Came m L S v o u
+  pub among : Among m word
+  pub stayed : (v : ℕ) → v < m → bit_at word v ≡ 0
+      → (Y v ≡ X v) × (from v ≡ was v) × AtLeast (X v) (asked L u t v)
+  pub rose : (v : ℕ) → v < m → bit_at word v ≡ 1
+      → (from v ≡ u)
+      × ((z : Row) × (asked L u t v ≡ Some z) × (Y v ≡ Some z) × (beats z (X v) ≡ true))
 
--- Of the first n events: none changed, or this one did.
-abbrev pub Tells : ℕ → Totals → Totals → Option ℕ → Type 0
-Tells n S R None = (v : ℕ) → v < n → R v ≡ S v
-Tells n S R (Some v) = (v < n) × (R v ≢ S v)
+-- No event outside the word asks more of any than it has.
+abbrev pub Idle : ℕ → Lags → Totals → ℕ → Type 0
+Idle m L S word =
+    (v u : ℕ) → v < m → u < m → bit_at word u ≡ 0 → AtLeast (S v) (added (S u) (L v u))
 
--- The first n of m events went through a round from the totals S, and R are their totals then.
-pub record WentRound
-    (m n : ℕ) (L : Lags) (S R : Totals) (from : ℕ → ℕ) (changed : Option ℕ)
-    : Type 0 where
-  pub totals : (v : ℕ) → v < n → R v ≡ round m L S v
-  pub traced : (v : ℕ) → v < n → (R v ≢ S v) → Source m L S v (from v) (R v)
-  pub tells : Tells n S R changed
+-- m events went through a round from the totals S, and R are their totals then. The word has those
+-- that it changed, and each of them came from an event.
+pub record WentRound (m : ℕ) (L : Lags) (S R : Totals) (from : ℕ → ℕ) (word : ℕ) : Type 0 where
+  pub totals : (v : ℕ) → v < m → R v ≡ round m L S v
+  pub among : Among m word
+  pub same : (v : ℕ) → v < m → bit_at word v ≡ 0 → R v ≡ S v
+  pub traced : (v : ℕ) → v < m → bit_at word v ≡ 1 → (R v ≢ S v) × Source m L S v (from v) (R v)

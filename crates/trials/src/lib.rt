@@ -9,8 +9,14 @@ mod nearest;
 #[cfg(test)]
 mod plans;
 #[cfg(test)]
+mod reading;
+#[cfg(test)]
+mod repairs;
+#[cfg(test)]
 mod scheduling;
 #[cfg(test)]
 mod scripts;
+#[cfg(test)]
+mod settling;
 #[cfg(test)]
 mod shared;

@@ -41,6 +41,7 @@ pub(crate) const FOUR_STAGES: &[Act] = &[
     Act::Lay((3, 7, -1)),
     Act::Ask(Call::Earliest, LOOP),
     UNWRITTEN,
+    Act::Closes(&[]),
     Act::Loop(&[3, 7, 9, 9, 9, 9, 9, 9, 9]),
     Act::AskAll(&[Call::Set(2, 1, 5), Call::Latest, Call::Spread(1)], LOOP),
     UNWRITTEN,
@@ -80,7 +81,20 @@ pub(crate) const FOUR_STAGES: &[Act] = &[
     Act::Lay((1, 0, 181)),
     Act::Ask(Call::Latest, LOOP),
     LATEST,
+    Act::Closes(&[]),
     Act::Loop(&[0, 1, 2, 9, 9, 9, 9, 9, 9]),
+    // and so do the others: the loop that each shows runs the way the lags do
+    Act::Renew(Row::Loop, 9),
+    Act::Ask(Call::Earliest, LOOP),
+    Act::Closes(&[]),
+    Act::Renew(Row::Loop, 9),
+    Act::Ask(Call::Spread(3), LOOP),
+    Act::Closes(&[]),
+    Act::Ask(Call::Drop(1, 0), DONE),
+    Act::Renew(Row::Loop, 9),
+    Act::Ask(Call::Set(1, 0, 181), LOOP),
+    Act::Closes(&[(1, 0, 181)]),
+    Act::Lags(&[(2, 1, 120), (0, 2, -300)]),
 ];
 
 const LATEST: Act = Act::Times(&[

@@ -1,10 +1,13 @@
 // A plan of any kind of mark with the rows of its calls, and the steps of a script that asks it in
 // whole numbers.
+use crate::reading::{Unread, read_lags};
 use marks::fault::{Layer, MarkFault};
 use marks::kind::Mark;
 use marks::turned::Turned;
 use plan::PlanFault;
+use solver::work::Work;
 use std::alloc::{AllocError, Global};
+use std::mem;
 use std::process::Abort;
 use std::test::Fail;
 
@@ -28,6 +31,8 @@ pub(crate) enum Call {
     Earliest,
     Latest,
     Spread(usize),
+    // no call of the planner: lags put into an emptied table, with the times repaired after each
+    Read(&'static [Lag]),
 }
 
 #[derive(Clone, Copy, PartialEq, Eq, Debug)]
@@ -67,8 +72,12 @@ pub(crate) enum Act {
     Lags(&'static [Lag]),
     // the whole row of answers
     Times(&'static [Option<i64>]),
+    // the whole row of repaired times
+    Repaired(&'static [Option<i64>]),
     // the whole loop row
     Loop(&'static [usize]),
+    // that the loop row has a loop of the table's lags, but for these in stead of what stands there
+    Closes(&'static [Lag]),
 }
 
 pub(crate) const DONE: Result<Answer, Missed> = Ok(Answer::Done);
@@ -87,6 +96,9 @@ pub(crate) const TOTAL: Result<Answer, Missed> = Err((12, Layer::Plan));
 
 pub(crate) const LOOP: Result<Answer, Missed> = Err((14, Layer::Plan));
 
+// What no check of the planner names.
+pub(crate) const UNFIT: Result<Answer, Missed> = Err((0, Layer::Plan));
+
 pub(crate) fn numbered<A>(outcome: Result<A, PlanFault>) -> Result<A, Missed> {
     outcome.map_err(|fault| (fault.number(), fault.layer()))
 }
@@ -98,7 +110,7 @@ fn to_total<K: Mark>(number: Option<i64>) -> Option<K> {
     K::make_total([number, number.saturating_neg()].get(..K::WIDTH)?)
 }
 
-fn to_lag<K: Mark>(number: i64) -> Result<K::Lag, MarkFault> {
+pub(crate) fn to_lag<K: Mark>(number: i64) -> Result<K::Lag, MarkFault> {
     let parts = [number, number.saturating_neg()];
     K::make_lag(parts.get(..K::WIDTH).unwrap_or(&parts))
 }
@@ -116,6 +128,14 @@ fn number_of<K: Mark>(total: Option<K>) -> Option<i64> {
     Some(to_number::<K>(total.part(0), total.part(1)))
 }
 
+pub(crate) fn has_numbers<K: Mark>(row: &[Option<K>], numbers: &[Option<i64>]) -> bool {
+    row.len() == numbers.len()
+        && row
+            .iter()
+            .zip(numbers)
+            .all(|(total, number)| number_of::<K>(*total) == *number)
+}
+
 #[derive(Drop)]
 pub(crate) struct Trial<K: Mark> {
     alloc: Global,
@@ -130,6 +150,8 @@ pub(crate) struct Trial<K: Mark> {
     turned: Vec<Option<Turned<K>>>,
     turned_next: Vec<Option<Turned<K>>>,
     loop_row: Vec<usize>,
+    // how long the loop is that was shown last
+    shown: usize,
 }
 
 impl<K: Mark> Trial<K> {
@@ -149,6 +171,7 @@ impl<K: Mark> Trial<K> {
             turned: vec![in alloc; None; count]?,
             turned_next: vec![in alloc; None; count]?,
             loop_row: vec![in alloc; 9; count]?,
+            shown: 0,
         })
     }
 
@@ -164,17 +187,15 @@ impl<K: Mark> Trial<K> {
         Ok(())
     }
 
-    fn has_lag(&self, to: usize, from: usize, number: i64) -> bool {
-        let lag = self.table.get(self.place_of(to, from)).copied().flatten();
-        lag.is_some_and(|lag| to_number::<K>(K::lag_part(lag, 0), K::lag_part(lag, 1)) == number)
+    fn number_at(&self, to: usize, from: usize) -> Option<i64> {
+        let lag = self.table.get(self.place_of(to, from)).copied().flatten()?;
+        Some(to_number::<K>(K::lag_part(lag, 0), K::lag_part(lag, 1)))
     }
 
-    fn has_just(&self, lags: &[Lag]) -> bool {
+    pub fn has_just(&self, lags: &[Lag]) -> bool {
         let count = self.table.iter().filter(|lag| lag.is_some()).count();
         count == lags.len()
-            && lags
-                .iter()
-                .all(|(to, from, number)| self.has_lag(*to, *from, *number))
+            && lags.iter().all(|(to, from, number)| self.number_at(*to, *from) == Some(*number))
     }
 
     pub fn give(&mut self, numbers: &[Option<i64>]) -> Result<(), AllocError> {
@@ -186,12 +207,40 @@ impl<K: Mark> Trial<K> {
     }
 
     pub fn has_times(&self, numbers: &[Option<i64>]) -> bool {
-        self.answer.len() == numbers.len()
-            && self
-                .answer
-                .iter()
-                .zip(numbers)
-                .all(|(total, number)| number_of::<K>(*total) == *number)
+        has_numbers(&self.answer, numbers)
+    }
+
+    // Whether the loop shown last is one of the table's lags, with more in stead of what stands
+    // there: its lowest event first, and more than nothing all round.
+    pub fn closes(&mut self, more: &[Lag]) -> bool {
+        let len = mem::replace(&mut self.shown, 0);
+        let Some((first, rest)) = self
+            .loop_row
+            .get(..len)
+            .and_then(|steps| steps.split_first())
+        else {
+            return false;
+        };
+        let mut sum: i64 = 0;
+        let mut from = *first;
+        for to in rest.iter().chain([first]) {
+            let put = more.iter().find(|lag| lag.0 == *to && lag.1 == from);
+            let Some(number) = put.map(|lag| lag.2).or(self.number_at(*to, from)) else {
+                return false;
+            };
+            sum = sum.saturating_add(number);
+            from = *to;
+        }
+        sum > 0 && rest.iter().all(|event| event > first)
+    }
+
+    // What a call answered, with the length of a loop noted.
+    fn noted<A>(&mut self, outcome: Result<A, PlanFault>) -> Result<A, Missed> {
+        self.shown = match outcome {
+            Err(PlanFault::Loop(len)) => len,
+            _ => 0,
+        };
+        numbered(outcome)
     }
 
     fn renew(&mut self, row: Row, len: usize) -> Result<(), AllocError> {
@@ -209,7 +258,7 @@ impl<K: Mark> Trial<K> {
     }
 
     fn set_parts(&mut self, to: usize, from: usize, parts: &[i64]) -> Result<(), Missed> {
-        numbered(plan::set::<K>(
+        let ended = plan::set::<K>(
             self.stages,
             &mut self.table,
             to,
@@ -218,7 +267,8 @@ impl<K: Mark> Trial<K> {
             &mut self.totals,
             &mut self.next,
             &mut self.loop_row,
-        ))
+        );
+        self.noted(ended)
     }
 
     pub fn set(&mut self, to: usize, from: usize, number: i64) -> Result<(), Missed> {
@@ -235,18 +285,19 @@ impl<K: Mark> Trial<K> {
     }
 
     fn earliest(&mut self) -> Result<(), Missed> {
-        numbered(plan::earliest::<K>(
+        let ended = plan::earliest::<K>(
             self.stages,
             &self.table,
             &mut self.answer,
             &mut self.totals,
             &mut self.next,
             &mut self.loop_row,
-        ))
+        );
+        self.noted(ended)
     }
 
     fn latest(&mut self) -> Result<(), Missed> {
-        numbered(plan::latest::<K>(
+        let ended = plan::latest::<K>(
             self.stages,
             &self.table,
             &mut self.answer,
@@ -255,11 +306,12 @@ impl<K: Mark> Trial<K> {
             &mut self.turned,
             &mut self.turned_next,
             &mut self.loop_row,
-        ))
+        );
+        self.noted(ended)
     }
 
     fn spread(&mut self, event: usize) -> Result<Answer, Missed> {
-        let (least, greatest) = numbered(plan::spread::<K>(
+        let ended = plan::spread::<K>(
             self.stages,
             &self.table,
             event,
@@ -268,8 +320,33 @@ impl<K: Mark> Trial<K> {
             &mut self.turned,
             &mut self.turned_next,
             &mut self.loop_row,
-        ))?;
+        );
+        let (least, greatest) = self.noted(ended)?;
         Ok(Answer::Within(number_of(least), number_of(greatest)))
+    }
+
+    pub fn read(&mut self, lags: &[Lag]) -> Result<(), Missed> {
+        let mut work = Work {
+            totals: &mut self.totals,
+            next: &mut self.next,
+        };
+        let ended = read_lags::<K>(
+            self.stages,
+            &mut self.table,
+            lags,
+            &mut work,
+            &mut self.loop_row,
+        );
+        match ended {
+            Ok(()) => Ok(()),
+            Err(Unread::Loop(len)) => self.noted(Err(PlanFault::Loop(len))),
+            Err(Unread::Unfit) => Err((0, Layer::Plan)),
+        }
+    }
+
+    // Whether the repaired times keep every lag.
+    pub fn repaired_keep(&self) -> bool {
+        numbered(plan::check::<K>(self.stages, &self.table, &self.totals)) == Ok(None)
     }
 
     fn check(&self) -> Result<Answer, Missed> {
@@ -308,6 +385,7 @@ impl<K: Mark> Trial<K> {
             Call::Backward => self.backward()?,
             Call::Earliest => self.earliest()?,
             Call::Latest => self.latest()?,
+            Call::Read(lags) => self.read(lags)?,
         }
         Ok(Answer::Done)
     }
@@ -321,6 +399,8 @@ impl<K: Mark> Trial<K> {
             }
             Act::Lags(lags) => return Ok(self.has_just(lags)),
             Act::Times(numbers) => return Ok(self.has_times(numbers)),
+            Act::Repaired(numbers) => return Ok(has_numbers(&self.totals, numbers)),
+            Act::Closes(more) => return Ok(self.closes(more)),
             Act::Loop(events) => return Ok(self.loop_row.as_slice() == events),
             Act::Tell(stages) => self.stages = stages,
             Act::Renew(row, len) => self.renew(row, len)?,

@@ -6,11 +6,10 @@ ghost use Rattle.schedules.specs.Tables.{events, times};
 
 use crate::checks::read_table;
 use crate::fault::PlanFault;
-use crate::solving::{check_schedule, least_times};
+use crate::solving::least_times;
 use crate::table::Place;
 use marks::kind::Mark;
-use solver::loops::Step;
-use solver::work::{Work, copy_totals};
+use solver::work::{Step, Work, copy_totals};
 
 /// Writes for each event the least time over all schedules, or none where the event is free:
 /// schedules have it before every row. The places of the answer past the events stay.
@@ -36,8 +35,7 @@ pub fn earliest<K: Mark>(
     let rows = [answer.len(), totals.len(), next.len(), loop_row.len()];
     let table = read_table::<K>(stages, table, &rows)?;
     let mut work = Work { totals, next };
-    check_schedule(&table, &mut work, loop_row)?;
-    least_times(&table, &mut work);
+    least_times(&table, &mut work, loop_row)?;
     copy_totals(table.count, totals, answer);
     Ok(())
 }

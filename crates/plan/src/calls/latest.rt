@@ -8,13 +8,12 @@ ghost use Rattle.schedules.specs.Tables.{events, times};
 
 use crate::checks::read_table;
 use crate::fault::PlanFault;
-use crate::solving::{check_schedule, greatest_times};
+use crate::solving::greatest_times;
 use crate::table::Place;
 use crate::turning::turn_back;
 use marks::kind::Mark;
 use marks::turned::Turned;
-use solver::loops::Step;
-use solver::work::Work;
+use solver::work::{Step, Work};
 
 /// Writes for each event the greatest time over all schedules, or none where the event is free:
 /// schedules have it after every row. The places of the answer past the events stay.
@@ -54,13 +53,11 @@ pub fn latest<K: Mark>(
         loop_row.len(),
     ];
     let table = read_table::<K>(stages, table, &rows)?;
-    let mut work = Work { totals, next };
-    check_schedule(&table, &mut work, loop_row)?;
-    let mut turned_work = Work {
+    let mut work = Work {
         totals: turned,
         next: turned_next,
     };
-    greatest_times(&table, &mut turned_work);
+    greatest_times(&table, &mut work, loop_row)?;
     turn_back(table.count, turned, answer);
     Ok(())
 }

@@ -7,8 +7,7 @@ use crate::fault::PlanFault;
 use crate::solving::contradiction;
 use crate::table::{Place, Table, lag_at, put_lag};
 use marks::kind::Mark;
-use solver::loops::Step;
-use solver::work::Work;
+use solver::work::{Step, Work};
 
 /// Makes the lag of the numbers and puts it to an event from another, in stead of what stood there,
 /// unless the plan as it would be then has no schedule.
@@ -39,7 +38,7 @@ pub fn set<K: Mark>(
     let lag = K::make_lag(parts)?;
     let stood = lag_at::<K>(count, table, to, from);
     put_lag::<K>(count, table, to, from, Some(lag));
-    // not by `check_schedule`: what stood goes back before the fault goes up
+    // not by `least_times`: what stood goes back before the fault goes up
     let found = contradiction(
         &Table::<K> {
             stages,

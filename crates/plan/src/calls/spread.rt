@@ -4,13 +4,12 @@ ghost use Rattle.plan.specs.Calls.{SpreadEnds};
 
 use crate::checks::{check_event, read_table};
 use crate::fault::PlanFault;
-use crate::solving::{check_schedule, greatest_times, least_times};
+use crate::solving::{least_times, settle_greatest};
 use crate::table::{Place, time_at};
 use crate::turning::inner_of;
 use marks::kind::Mark;
 use marks::turned::Turned;
-use solver::loops::Step;
-use solver::work::Work;
+use solver::work::{Step, Work};
 
 /// Answers the least and the greatest time of an event over all schedules, each none where the
 /// event is free on that side.
@@ -43,12 +42,11 @@ pub fn spread<K: Mark>(
     let table = read_table::<K>(stages, table, &rows)?;
     check_event(stages, event)?;
     let mut work = Work { totals, next };
-    check_schedule(&table, &mut work, loop_row)?;
-    least_times(&table, &mut work);
+    least_times(&table, &mut work, loop_row)?;
     let mut turned_work = Work {
         totals: turned,
         next: turned_next,
     };
-    greatest_times(&table, &mut turned_work);
+    settle_greatest(&table, &mut turned_work);
     Ok((time_at(totals, event), inner_of(time_at(turned, event))))
 }

@@ -4,4 +4,4 @@ use Rattle.solver.proofs.walk.write_loop.Goals as goal
 
 pub returns : goal.returns
 returns c =
-    written_is _ _ _ _ _ _ _ c.walk_back-first.ensures.met c.walk_back-first.ensures.holds (omega (arith, c.walk_back-first.ensures.met.short)) c.write_circle.ensures
+    written_is _ _ _ _ _ _ _ c.in_ok-first.ensures.twice c.in_ok-first.ensures.holds (omega (arith, c.in_ok-first.ensures.twice.short)) c.write_circle.ensures

@@ -7,9 +7,9 @@ use Rattle.plan.proofs.Copying.{copied}
 use Rattle.plan.proofs.Ends.{grants, refuses, at_call}
 use Rattle.plan.proofs.calls.earliest.earliest.Goals as goal
 
-pub returns-in_err-check_schedule-clause-ends : goal.returns-in_err-check_schedule-clause-ends
-returns-in_err-check_schedule-clause-ends g c =
-    refuses c.in_ok-table.ensures.answer _ c.in_ok-table.ensures.none_missed c.args.loop_row.now c.check_schedule.new.loop_row _ _ _ c.from_residual-in_err-check_schedule.result refl c.from_residual-in_err-check_schedule.ensures.1 c.in_err-check_schedule.ensures.solved
+pub returns-in_err-least_times-clause-ends : goal.returns-in_err-least_times-clause-ends
+returns-in_err-least_times-clause-ends g c =
+    refuses c.in_ok-table.ensures.answer _ c.in_ok-table.ensures.none_missed c.args.loop_row.now c.least_times.new.loop_row _ _ _ c.from_residual-in_err-least_times.result refl c.from_residual-in_err-least_times.ensures.1 c.in_err-least_times.ensures.solved
 
 pub copy_totals-requires : goal.copy_totals-requires
 copy_totals-requires g c =
@@ -22,8 +22,8 @@ returns-clause-ends g c =
     let w : (e : ℕ) → e < c.in_ok-table.table.count → get_or c.copy_totals.new.to e None ≡ get_or c.least_times.new.work.totals.now e None = λ e l.
     let h = c.copy_totals.ensures.0 e l in
     search rules in
-    let least = copied g.K.Mark.row (LeastTime g.K.Mark.WIDTH c.in_ok-table.table.count (lags_of c.in_ok-table.table)) c.in_ok-table.table.count c.least_times.new.work.totals.now c.args.answer.now c.copy_totals.new.to (w, c.copy_totals.ensures.1) c.least_times.ensures.least in
-    grants read _ c.in_ok-table.ensures.none_missed c.args.loop_row.now c.check_schedule.new.loop_row _ c.in_ok-check_schedule.ensures.solved (record {
+    let least = copied g.K.Mark.row (LeastTime g.K.Mark.WIDTH c.in_ok-table.table.count (lags_of c.in_ok-table.table)) c.in_ok-table.table.count c.least_times.new.work.totals.now c.args.answer.now c.copy_totals.new.to (w, c.copy_totals.ensures.1) c.in_ok-least_times.ensures.solved.answer in
+    grants read _ c.in_ok-table.ensures.none_missed c.args.loop_row.now c.least_times.new.loop_row _ c.in_ok-least_times.ensures.solved (record {
       written = at_call read (λ m L. LeastTimes g.K.Mark.WIDTH m L (times g.K.Mark.row c.copy_totals.new.to)) least;
       rest = rw (sym read.laid.count) c.copy_totals.ensures.1;
     })

@@ -9,9 +9,9 @@ use Rattle.plan.proofs.Ends.{grants, refuses, at_call}
 use Rattle.plan.proofs.Reversing.{latest_is_earliest_reversed}
 use Rattle.plan.proofs.calls.latest.latest.Goals as goal
 
-pub returns-in_err-check_schedule-clause-ends : goal.returns-in_err-check_schedule-clause-ends
-returns-in_err-check_schedule-clause-ends g c =
-    refuses c.in_ok-table.ensures.answer _ c.in_ok-table.ensures.none_missed c.args.loop_row.now c.check_schedule.new.loop_row _ _ _ c.from_residual-in_err-check_schedule.result refl c.from_residual-in_err-check_schedule.ensures.1 c.in_err-check_schedule.ensures.solved
+pub returns-in_err-greatest_times-clause-ends : goal.returns-in_err-greatest_times-clause-ends
+returns-in_err-greatest_times-clause-ends g c =
+    refuses c.in_ok-table.ensures.answer _ c.in_ok-table.ensures.none_missed c.args.loop_row.now c.greatest_times.new.loop_row _ _ _ c.from_residual-in_err-greatest_times.result refl c.from_residual-in_err-greatest_times.ensures.1 c.in_err-greatest_times.ensures.solved
 
 pub greatest_times-requires-clause-room : goal.greatest_times-requires-clause-room
 greatest_times-requires-clause-room g c =
@@ -29,8 +29,8 @@ returns-clause-ends g c =
     let w : (e : ℕ) → e < c.in_ok-table.table.count → get_or c.turn_back.new.totals e None ≡ option_map (λ t. t.inner) (get_or c.greatest_times.new.work.totals.now e None) = λ e l.
     let h = c.turn_back.ensures.0 e l in
     search rules in
-    let greatest = copied_inner g.K.Mark.row (GreatestTime g.K.Mark.WIDTH c.in_ok-table.table.count (lags_of c.in_ok-table.table)) c.in_ok-table.table.count (λ t. t.inner) c.greatest_times.new.work.totals.now c.args.answer.now c.turn_back.new.totals (w, c.turn_back.ensures.1) c.greatest_times.ensures.greatest in
-    grants read _ c.in_ok-table.ensures.none_missed c.args.loop_row.now c.check_schedule.new.loop_row _ c.in_ok-check_schedule.ensures.solved (record {
+    let greatest = copied_inner g.K.Mark.row (GreatestTime g.K.Mark.WIDTH c.in_ok-table.table.count (lags_of c.in_ok-table.table)) c.in_ok-table.table.count (λ t. t.inner) c.greatest_times.new.work.totals.now c.args.answer.now c.turn_back.new.totals (w, c.turn_back.ensures.1) c.in_ok-greatest_times.ensures.solved.answer in
+    grants read _ c.in_ok-table.ensures.none_missed c.args.loop_row.now c.greatest_times.new.loop_row _ c.in_ok-greatest_times.ensures.solved (record {
       written = at_call read (λ m L. GreatestTimes g.K.Mark.WIDTH m L (times g.K.Mark.row c.turn_back.new.totals)) greatest;
       rest = rw (sym read.laid.count) c.turn_back.ensures.1;
     })

@@ -50,7 +50,7 @@ returns-in-Some g c =
     let passes = set_passes K.WIDTH c.args.stages (length c.args.table.now) rows c.args.to c.args.from c.args.parts.now (search rules) (search rules) made.0 in
     let shown = sought_put m K.amount c.args.table.now c.args.to c.args.from c.in_ok-lag.lag c.args.parts.now laid.full at.1 at.2 made.1 K.WIDTH (events c.args.stages) c.put_lag.new.table c.args.loop_row.now c.contradiction-found.new.loop_row (Some c.in-Some.len) laid.count put c.in-Some.ensures.sought in
     let L = with_lag (lags K.amount (events c.args.stages) c.args.table.now) c.args.to c.args.from c.args.parts.now in
-    let back = put_back c.args.table.now c.put_lag.new.table c.put_lag-in-Some.new.table (place m c.args.to c.args.from) (Some c.in_ok-lag.lag) c.lag_at-stood.result put (c.put_lag-in-Some.ensures at.0 at.1 at.2) (c.lag_at-stood.ensures at.0 at.1 at.2) in
+    let back = put_back None c.args.table.now c.put_lag.new.table c.put_lag-in-Some.new.table (place m c.args.to c.args.from) (Some c.in_ok-lag.lag) c.lag_at-stood.result put (c.put_lag-in-Some.ensures at.0 at.1 at.2) (c.lag_at-stood.ensures at.0 at.1 at.2) in
     inr (record {
       none_missed = passes;
       no_schedule = loop_refuses K.WIDTH (events c.args.stages) L c.args.loop_row.now c.contradiction-found.new.loop_row c.in-Some.len shown;
