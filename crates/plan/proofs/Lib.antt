@@ -10,6 +10,7 @@ pub mod FromZero
 pub mod Halving
 pub mod Holding
 pub mod InAlgebra
+pub mod Kept
 pub mod Lengths
 pub mod Mirroring
 pub mod Moving

@@ -10,3 +10,4 @@ pub mod Passing
 pub mod Repairing
 pub mod Timed
 pub mod Waiting
+pub mod Witness

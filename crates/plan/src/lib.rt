@@ -34,3 +34,4 @@ mod table;
 mod turning;
 mod views;
 mod widths;
+mod witness;

@@ -11,6 +11,7 @@ use crate::fault::PlanFault;
 use crate::table::Table;
 use crate::turning::turn_loop;
 use crate::views::{Forward, Reversed};
+use crate::witness::keep_all;
 use marks::kind::Mark;
 use marks::turned::Turned;
 use solver::least::{find_least, settle};
@@ -29,6 +30,11 @@ pub(crate) fn contradiction<K: Mark>(
         loop_row.old loop_row.new result }
     ensures rows { SameRows work.new work.old }
 {
+    let totals = &mut *work.totals;
+    // a short cut, for what the call before left there may still be a schedule
+    if keep_all(table, totals) {
+        return None;
+    }
     find_least(&Forward { table: *table }, work, loop_row)
 }
 

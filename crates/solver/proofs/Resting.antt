@@ -1,5 +1,5 @@
 -- The lags among the events that no chain from the opening reaches, and the loops that they close.
-use Rattle.std.proofs.Common.{◌≡◌, ℕ, true, [], ◌∷◌, refl, ◌<◌, ◌≤◌, ◌≢◌, ◌⊎◌, List, Some, None, sym, ap, ◌∙◌, subst, inl, inr, arith}
+use Rattle.std.proofs.Common.{◌≡◌, ℕ, true, [], ◌∷◌, refl, length, slice_index, ◌<◌, ◌≤◌, ◌≢◌, ◌⊎◌, List, Some, None, sym, ap, ◌∙◌, subst, inl, inr, arith}
 use Rattle.std.proofs.lemmas.Bool.{cases_eq, eq-eqb, eqb-true}
 use Rattle.std.proofs.lemmas.Nat.Bits.{bit_at-zero}
 use Rattle.std.specs.Int.{bit_at}
@@ -7,7 +7,7 @@ use Rattle.rows.specs.Limits.{lag_limit}
 use Rattle.rows.specs.Rows.{Row, zeros}
 use Rattle.rows.proofs.Options.{none_or_some}
 use Rattle.schedules.specs.Answers.{LeastTimes}
-use Rattle.schedules.specs.Plans.{Lags, Loop, LoopFree, Reaches, Totals, Schedulable, lags_into}
+use Rattle.schedules.specs.Plans.{Chain, Lags, Loop, LoopFree, Reaches, Totals, Schedulable, lags_into}
 use Rattle.schedules.specs.Firsts.{ReachedFrom}
 use Rattle.schedules.specs.Rounds.{rounds, opening, Settled}
 use Rattle.schedules.proofs.Chains.{chain_from}
@@ -17,11 +17,25 @@ use Rattle.schedules.proofs.Reached.{from_reached}
 use Rattle.schedules.proofs.Rounds.{WideTotals, opening_sized}
 use Rattle.solver.specs.Networks.{Net}
 use Rattle.solver.specs.Settled.{SettledAt}
-use Rattle.solver.specs.Words.{Added, Among, ChainsFrom, EventIn, FirstEvents, FromRoots, RootsOf, Without, in_word}
+use Rattle.solver.specs.Words.{Added, Among, ChainsFrom, EventIn, FirstEvents, FromRoots, NoneStand, RootsOf, Stands, Without, in_word}
 use Rattle.solver.proofs.Bits.{set_or_not}
 use Rattle.solver.proofs.Opening.{settled_least}
 use Rattle.solver.proofs.Reaching.{known_from_opening}
 use Rattle.solver.proofs.Rooting.{reaches_on}
+
+-- where no word has an event no lag stands
+pub none_stand : (w m : ℕ) → m ≤ 63 → (L : Lags) (words : List ℕ) → m ≤ length words → Stands m L words → NoneStand words → LoopFree w m L
+none_stand w m few L words long stands none [] l = l
+none_stand w m few L words long stands none (e ∷ es) l = go es l.2.1.0
+  where
+    led : (t : ℕ) (a : Row) → e < m → t < m → L t e ≡ Some a → ⊥
+    led t a e_in t_in q =
+        let b : bit_at (slice_index words e) t ≡ 1 = (stands e e_in t (omega arith)).1 (t_in, λ n. none_or_some a (sym n ∙ q)) in
+        absurd (omega (arith, b, ap (λ (x : ℕ). bit_at x t) (none e (omega arith)), bit_at-zero t))
+
+    go : (es : List ℕ) → Chain m L e es e l.2.0 → ⊥
+    go [] c = led e l.2.0 c.0 c.1 c.2
+    go (t ∷ fs) c = led t c.0 c.2 (chain_from m L fs t e c.1 c.4) c.3
 
 -- the lags to the events of a word
 
@@ -33,12 +47,6 @@ module _ (w m : ℕ) (L : Lags) (net : Net w m L) (rest : ℕ) where
   loop_begins : (e : ℕ) (es : List ℕ) → Loop w m (lags_into (in_word rest) L) (e ∷ es) → (e < m) × (bit_at rest e ≡ 1)
   loop_begins e es l =
       (chain_from m (lags_into (in_word rest) L) es e e l.2.0 l.2.1.0, eqb-true (bit_at rest e) 1 (into_end (in_word rest) L m es e e l.2.0 l.2.1.0))
-
-  pub none_into : rest ≡ 0 → LoopFree w m (lags_into (in_word rest) L)
-  none_into none [] l = l
-  none_into none (e ∷ es) l =
-      let b : bit_at rest e ≡ 1 = (loop_begins e es l).1 in
-      absurd (omega (arith, b, ap (λ (x : ℕ). bit_at x e) none, bit_at-zero e))
 
   -- rounds settled from its roots know all its events
   pub roots_loop_free : Among m rest → (roots : ℕ) → RootsOf m (lags_into (in_word rest) L) rest roots → (b : Totals) → WideTotals w m b → ((v : ℕ) → v < m → bit_at roots v ≡ 1 → b v ≡ Some (zeros w)) → (k : ℕ) → Settled m (lags_into (in_word rest) L) b k → LoopFree w m (lags_into (in_word rest) L)

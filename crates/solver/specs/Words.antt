@@ -104,3 +104,7 @@ abbrev pub KnownEvents : {T : Type 0} → ℕ → List (Option T) → ℕ → Ty
 KnownEvents n totals word =
     (v : ℕ) → v < 64
     → (bit_at word v ≡ 1) ↔ ((v < n) × (slice_index_or totals v None ≢ None))
+
+-- no word has an event
+abbrev pub NoneStand : List ℕ → Type 0
+NoneStand words = (u : ℕ) → u < length words → slice_index words u ≡ 0

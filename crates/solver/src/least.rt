@@ -8,7 +8,7 @@ ghost use Rattle.solver.specs.Working.{HasRoom, SameRows};
 use crate::network::{Network, Standing};
 use crate::reach::{reach, roots_of};
 use crate::settle::go_rounds;
-use crate::subnetwork::{Subnetwork, mask};
+use crate::subnetwork::{Subnetwork, leads_on, mask};
 use crate::words::{first_events, has, with_event, without};
 use crate::work::{Step, Work, fill_totals};
 use marks::kind::Mark;
@@ -67,10 +67,10 @@ fn from_rest<N: Network>(
     ensures ends { RestEnds N.Network N.Kind.Mark net.now rest loop_row.old loop_row.new result }
     ensures rows { SameRows work.new work.old }
 {
-    if rest == 0 {
+    let standing = mask(standing, rest);
+    if !leads_on(&standing) {
         return None;
     }
-    let standing = mask(standing, rest);
     let net = Subnetwork {
         net: *net,
         word: rest,

@@ -1,8 +1,8 @@
 // The lags of a network that lead to events of a word.
-ghost use Rattle.std.specs.Prelude.{◌≡◌, ℕ, ◌<◌, ◌≤◌, slice_index};
+ghost use Rattle.std.specs.Prelude.{◌≡◌, ℕ, ◌<◌, ◌≤◌, false, length, slice_index};
 ghost use Rattle.schedules.proofs.Fewer.{into_limited, into_wide};
 ghost use Rattle.schedules.specs.Plans.{lags_into};
-ghost use Rattle.solver.specs.Words.{in_word, Masked};
+ghost use Rattle.solver.specs.Words.{in_word, Masked, NoneStand};
 
 use crate::network::{Network, Standing};
 use crate::words::{both, has};
@@ -49,11 +49,19 @@ impl<N: Network> Network for Subnetwork<N> {
 
 // Of each word the events that are in another.
 pub(crate) fn mask(standing: &Standing, word: u64) -> Standing
-    ensures { Masked standing.now word result }
+    ensures masked { Masked standing.now word result }
+    ensures long { length result ≡ length standing.now }
 {
     let mut masked = *standing;
     for led_to in &mut masked {
         *led_to = both(*led_to, word);
     }
     masked
+}
+
+// Whether some event leads to any.
+pub(crate) fn leads_on(standing: &Standing) -> bool
+    ensures { result ≡ false → NoneStand standing.now }
+{
+    standing.iter().any(|led_to| *led_to != 0)
 }

@@ -1,21 +1,23 @@
-use Rattle.std.proofs.Common.{refl, arith}
+use Rattle.std.proofs.Common.{refl, rules, arith}
 use Rattle.schedules.proofs.Fewer.{into_has, loop_kept}
 use Rattle.schedules.specs.Plans.{lags_into}
 use Rattle.solver.proofs.Cells.{times_sized}
 use Rattle.solver.proofs.Masking.{masked_stands}
 use Rattle.solver.proofs.Opening.{rounds_end, word_at_zero, word_leaves}
-use Rattle.solver.proofs.Resting.{none_into, roots_loop_free}
+use Rattle.solver.proofs.Resting.{none_stand, roots_loop_free}
 use Rattle.solver.specs.Solving.{RestEnds}
 use Rattle.solver.specs.Words.{in_word}
 use Rattle.solver.proofs.least.from_rest.Goals as goal
 
-pub returns-then-rest-eq0-clause-ends : goal.returns-then-rest-eq0-clause-ends
-returns-then-rest-eq0-clause-ends g c = (none_into _ _ _ (g.met.N.Network.sound c.args.net.now) c.args.rest c.if-rest-eq0.true, refl)
+pub returns-then-not-leads_on-clause-ends : goal.returns-then-not-leads_on-clause-ends
+returns-then-not-leads_on-clause-ends g c =
+    let net = g.met.N.Network.sound c.args.net.now in
+    (none_stand _ _ net.few _ c.mask-standing.result (omega (arith, net.few, c.told-standing, c.mask-standing.ensures.long)) (masked_stands _ _ _ _ _ (omega (arith, net.few, c.told-standing)) c.requires.standing c.mask-standing.ensures.masked) (c.leads_on.ensures (search rules)), refl)
 
 pub go_rounds-requires-clause-standing : goal.go_rounds-requires-clause-standing
 go_rounds-requires-clause-standing g c =
     let net = g.met.N.Network.sound c.args.net.now in
-    masked_stands _ _ _ _ _ (omega (arith, net.few, c.told-standing)) c.requires.standing c.mask-standing.ensures
+    masked_stands _ _ _ _ _ (omega (arith, net.few, c.told-standing)) c.requires.standing c.mask-standing.ensures.masked
 
 pub go_rounds-requires-clause-leaves : goal.go_rounds-requires-clause-leaves
 go_rounds-requires-clause-leaves g c =
