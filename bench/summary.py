@@ -5,12 +5,14 @@ import collections
 import statistics
 import sys
 
-CALLS = ("earliest", "latest", "spread")
+CALLS = ("earliest", "latest", "spread", "flow")
 PEERS = ("Boost", "LEMON", "rounds", "changes")
 
 # the nanoseconds of each turn, by the plan and what was measured
 times = collections.defaultdict(lambda: collections.defaultdict(list))
 ends = {}
+# how many numbers are tried for the flow of a plan that has one
+asked = {}
 
 
 def ended(plan, outcome, who):
@@ -26,6 +28,10 @@ def read(path):
             ended(plan, words[4], "earliest")
             for call, nanos in zip(CALLS, words[5:], strict=True):
                 times[plan][call].append(int(nanos))
+        elif words[0] == "asked":
+            plan = tuple(words[1:3])
+            ended(("tries of", *plan), words[3], "flow")
+            asked[plan] = int(words[3])
         elif words[0] == "build":
             plan = tuple(words[1:3])
             ended(plan, words[3], "earliest of the plan built by set")
@@ -69,6 +75,10 @@ for kind in dict.fromkeys(plan[0] for plan in times):
         show_ratio(plans, "earliest", peer)
     show_ratio(plans, "latest", "earliest")
     show_ratio(plans, "spread", "earliest")
+    show_ratio(plans, "flow", "earliest")
+    tried = [asked[plan] for plan in plans if asked[plan] > 0]
+    if tried:
+        print(f"  tried for a flow: {statistics.mean(tried):.1f} numbers on average, at most {max(tried)}")
     if "build" in times[plans[0]]:
         print(f"  built by a call of set for each lag: {micros(plans, 'build') / 1000:.1f} milliseconds a plan")
         print(f"  built by a repair for each lag: {micros(plans, 'repairs'):.1f} microseconds a plan")

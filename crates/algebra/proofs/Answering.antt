@@ -34,7 +34,7 @@ module _ (w m : ℕ) (A : Matrix) (x : Vector) (wide : Wide w m A) (some : 1 ≤
 -- starts and finishes
 
 module _ (w n : ℕ) (L : Lags) (wide_L : Wide w (events n) L) where
-  lag_matrix_wide : Wide w n (lag_matrix L)
+  pub lag_matrix_wide : Wide w n (lag_matrix L)
   lag_matrix_wide j k r j_in k_in e = wide_L (finish (suc j)) (start (suc k)) r (omega arith) (omega arith) e
 
   pub product : (x y : Totals) → Wide w (events n) (columns x) → Finishes n L x y → IsProduct n (lag_matrix L) (starts_of x) (finishes_of y)

@@ -11,9 +11,10 @@ use Rattle.schedules.specs.Plans.{Lags, Totals, Wide, columns}
 use Rattle.schedules.specs.Tables.{start, finish, events}
 use Rattle.schedules.proofs.Widths.{finish_wide}
 use Rattle.schedules.specs.Starts.{Backward}
-use Rattle.schedules.specs.Closest.{minutes, AllNear, Closest}
+use Rattle.schedules.specs.Closest.{AllNear, Closest}
+use Rattle.schedules.specs.Minutes.{minutes, minute}
 use Rattle.schedules.specs.Served.{AllServed}
-use Rattle.schedules.specs.Nearing.{minute, miss, largest, Moved}
+use Rattle.schedules.specs.Nearing.{miss, largest, Moved}
 use Rattle.schedules.specs.Folds.{finish_of}
 use Rattle.schedules.proofs.Nearest.{begin_there, end_there, miss_is, closest}
 use Rattle.schedules.proofs.One.{there, to_not_before}

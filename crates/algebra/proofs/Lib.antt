@@ -1,6 +1,8 @@
 pub mod Answering
+pub mod Cycles
 pub mod Firsts
 pub mod Halves
+pub mod Means
 pub mod Order
 pub mod Powers
 pub mod Residuals

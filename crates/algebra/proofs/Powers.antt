@@ -84,7 +84,7 @@ module _ (w m : ℕ) (A : Matrix) (wide : Wide w m A) where
   power_rowed (suc k) v j v_in =
       sum_rowed w m (λ u. added (A v u) (power w m A k u j)) (λ u u_in. after_rowed w (A v u) (power w m A k u j) (lag_rowed w m A wide v u v_in u_in) (power_rowed k u j u_in))
 
-  step_rowed : (k v j u : ℕ) → v < m → u < m → WideRow w (added (A v u) (power w m A k u j))
+  pub step_rowed : (k v j u : ℕ) → v < m → u < m → WideRow w (added (A v u) (power w m A k u j))
   step_rowed k v j u v_in u_in = after_rowed w (A v u) (power w m A k u j) (lag_rowed w m A wide v u v_in u_in) (power_rowed k u j u_in)
 
   pub power_wide : (k v j : ℕ) (q : Row) → v < m → power w m A k v j ≡ Some q → length q ≡ w

@@ -11,7 +11,7 @@ use Rattle.schedules.specs.Tables.{start, finish}
 use Rattle.rows.proofs.Options.{both_some}
 use Rattle.schedules.specs.Closest.{AllNear, Closest}
 use Rattle.schedules.specs.Served.{lag_into, lag_from, AllServed}
-use Rattle.schedules.specs.Nearing.{minute}
+use Rattle.schedules.specs.Minutes.{minute}
 use Rattle.schedules.proofs.Serving.{any_hit, any_none}
 use Rattle.schedules.proofs.One.{one_part, from_not_before}
 

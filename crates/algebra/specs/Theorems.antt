@@ -8,9 +8,12 @@ use Rattle.schedules.specs.Plans.{Lags, Totals, Wide, columns, KeepsLags, Schedu
 use Rattle.schedules.specs.Tables.{events}
 use Rattle.schedules.specs.Rounds.{rounds, opening, Settled}
 use Rattle.schedules.specs.Starts.{Finishes, Backward}
-use Rattle.schedules.specs.Closest.{minutes, Closest}
+use Rattle.schedules.specs.Closest.{Closest}
+use Rattle.schedules.specs.Flows.{Flow}
+use Rattle.schedules.specs.Minutes.{minutes}
 use Rattle.rows.specs.Algebra.{◌⊗◌, ◌≼◌, Vector, Matrix, matrix_vector, vector_vector, powers, Star, transpose, conjugate, residual}
-use Rattle.algebra.specs.Matrices.{lag_matrix, starts_of, finishes_of}
+use Rattle.algebra.specs.Cycles.{RoundedMean}
+use Rattle.algebra.specs.Matrices.{lag_matrix, starts_of, finishes_of, OnlyStartToFinish}
 
 -- every one of the n entries is there
 abbrev pub Full : ℕ → Vector → Type 0
@@ -104,3 +107,13 @@ ClosestIsResidual =
     (n : ℕ) (L : Lags) (d y : Totals) (e : ℕ) → 1 ≤ n → Wide 1 (events n) L
     → Wide 1 (events n) (columns d) → Full n (finishes_of d) → Closest n L d y e
     → ClosestIsHalf n (lag_matrix L) (finishes_of d) (starts_of y) e
+
+-- Where only start-to-finish lags stand, the flow is the greatest mean of a cycle of their matrix,
+-- rounded up. (Of plans with other lags this says nothing.)
+abbrev pub FlowInAlgebra : ℕ → Lags → ℕ → Type 0
+FlowInAlgebra n L f = OnlyStartToFinish n L → RoundedMean n (lag_matrix L) f
+
+abbrev pub FlowIsGreatestMean : Type 0
+FlowIsGreatestMean =
+    (n : ℕ) (L : Lags) (f : ℕ) (y : Totals) → 1 ≤ n → Wide 1 (events n) L → Flow n L f y
+    → FlowInAlgebra n L f

@@ -1,7 +1,7 @@
 // The max-plus algebra: what the calls answer, as products, powers and residuals of matrices.
 #![tactic(auto)]
 
-ghost use Rattle.algebra.specs.Theorems.{RoundsAreProducts, RoundsArePowers, EarliestIsStar, LeastFromIsStar, LatestIsStar, FinishIsProduct, BackwardIsResidual, ClosestIsResidual};
+ghost use Rattle.algebra.specs.Theorems.{RoundsAreProducts, RoundsArePowers, EarliestIsStar, LeastFromIsStar, LatestIsStar, FinishIsProduct, BackwardIsResidual, ClosestIsResidual, FlowIsGreatestMean};
 
 /// The solver's rounds from any first totals are these times a sum of powers.
 pub fn rounds_are_products()
@@ -43,4 +43,11 @@ pub fn backward_is_residual()
 /// by it.
 pub fn closest_is_residual()
     ensures { ClosestIsResidual }
+{}
+
+/// Where only start-to-finish lags stand, the flow is the least whole F ≥ 0 for which no cycle of
+/// (−F) ⊗ A has a sum after zero, that is tr Aᵏ ≼ k · F for every k: the greatest mean of a cycle,
+/// rounded up and not below nought.
+pub fn flow_is_greatest_mean()
+    ensures { FlowIsGreatestMean }
 {}

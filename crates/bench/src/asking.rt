@@ -5,7 +5,7 @@ use crate::making::{EVENTS, STAGES};
 use marks::kind::Mark;
 use marks::minutes::{Minutes, MinutesLag};
 use marks::turned::Turned;
-use plan::PlanFault;
+use plan::{FlowFound, PlanFault};
 use std::fmt;
 use std::fmt::Display;
 
@@ -16,6 +16,7 @@ pub enum Call {
     Latest,
     /// Of one event.
     Spread(usize),
+    Flow,
 }
 
 /// The rows that the calls answer and work in.
@@ -49,6 +50,7 @@ impl Rows {
             Call::Earliest => self.ask_earliest(table),
             Call::Latest => self.ask_latest(table),
             Call::Spread(event) => self.ask_spread(table, event),
+            Call::Flow => self.ask_flow(table).map(|_| ()),
         }
     }
 
@@ -90,6 +92,20 @@ impl Rows {
         self.answer[0] = least;
         self.answer[1] = greatest;
         Ok(())
+    }
+
+    /// Asks for the flow. `answer` holds the latest times within it.
+    pub fn ask_flow(&mut self, table: &[Option<MinutesLag>]) -> Result<FlowFound, PlanFault> {
+        plan::flow_counted(
+            STAGES,
+            table,
+            &mut self.answer,
+            &mut self.totals,
+            &mut self.next,
+            &mut self.turned,
+            &mut self.turned_next,
+            &mut self.loop_row,
+        )
     }
 
     /// Puts the lag into the plan.

@@ -15,13 +15,13 @@ pub struct Draws {
 }
 
 impl Draws {
-    /// The row that comes after the seed.
-    pub fn new(seed: u32) -> Draws
-        requires { seed < 2147483647 }
-        ensures { result.state ≡ seed }
+    /// The row that comes after the number.
+    pub fn new(first: u32) -> Draws
+        requires { first < 2147483647 }
+        ensures { result.state ≡ first }
     {
         Draws {
-            state: u64::from(seed),
+            state: u64::from(first),
         }
     }
 

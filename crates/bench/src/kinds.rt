@@ -42,8 +42,8 @@ impl Kind {
         }
     }
 
-    /// What the seed of a plan of the kind is counted from.
-    pub fn seed(self) -> u32
+    /// The number that the draws of the kind's first plan follow.
+    pub fn first_number(self) -> u32
         ensures { result ≤ 500 }
     {
         match self {

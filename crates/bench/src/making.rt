@@ -107,7 +107,7 @@ pub fn make_plan(kind: Kind, number: u32, table: &mut [Option<MinutesLag>])
     requires places { length table.old ≡ 3969 }
     requires number { number < 20 }
 {
-    let mut draws = Draws::new(kind.seed() + number);
+    let mut draws = Draws::new(kind.first_number() + number);
     table.fill(None);
     draw_lags(&mut draws, kind.count_drawn(), table);
     match kind {

@@ -126,11 +126,22 @@ fn measure_calls(
     let outcome = Outcome::new(ended, &rows.answer);
     let lags = count_lags(table);
     print!(rt; " {lags} {outcome}")?;
-    for call in [Call::Earliest, Call::Latest, Call::Spread(ASKED)] {
+    for call in [
+        Call::Earliest,
+        Call::Latest,
+        Call::Spread(ASKED),
+        Call::Flow,
+    ] {
         let nanos = time_call(rt, rows, call, table)?.as_nanos();
         print!(rt; " {nanos}")?;
     }
     println!(rt; "")
+}
+
+// Prints how often flow asks the solver; 0 where it is refused.
+fn count_asked(rt: &HostRuntime, rows: &mut Rows, table: &[Option<MinutesLag>]) -> io::Result<()> {
+    let asked = rows.ask_flow(table).map_or(0, |found| found.asked);
+    println!(rt; " {asked}")
 }
 
 fn measure_kind(
@@ -145,6 +156,8 @@ fn measure_kind(
         make_plan(kind, number, table);
         print!(rt; "calls {kind} {number}")?;
         measure_calls(rt, rows, table)?;
+        print!(rt; "asked {kind} {number}")?;
+        count_asked(rt, rows, table)?;
         if matches!(kind, Kind::Sparse | Kind::Middling | Kind::Full) {
             print!(rt; "build {kind} {number}")?;
             measure_build(rt, rows, table)?;
@@ -155,9 +168,10 @@ fn measure_kind(
     Ok(())
 }
 
-/// Measures, and prints a line for each plan: `calls`, its kind, number and lags, how `earliest`
-/// ends, and the nanoseconds of `earliest`, of `latest` and of `spread` of one event. A sparse, a
-/// middling and a full plan have two lines more, each with its kind and number. `build`: how
+/// Measures, and prints two lines for each plan: `calls`, its kind, number and lags, how `earliest`
+/// ends, and the nanoseconds of `earliest`, of `latest`, of `spread` of one event and of `flow`;
+/// and `asked`, its kind and number, and how often `flow` asks the solver. A sparse, a middling and
+/// a full plan have two lines more, each with its kind and number. `build`: how
 /// `earliest` ends on the same plan built by a call of `set` for each lag, and the nanoseconds of
 /// all these calls. `repairs`: the sum over the least times that are nowhere before zero, repaired
 /// after each lag, and the nanoseconds of all these repairs.

@@ -7,7 +7,7 @@ use crate::making::{EVENTS, PLACES, make_plan};
 use crate::repairing::build_repaired;
 use marks::kind::Mark;
 use marks::minutes::{Minutes, MinutesLag};
-use plan::PlanFault;
+use plan::{FlowFound, PlanFault};
 use std::io;
 
 // The events whose spread is asked.
@@ -32,6 +32,20 @@ fn ask_spreads(
     Ok(found)
 }
 
+// The flow, how often it asked the solver, and the sum over the latest times within it.
+fn show_flow(rt: &HostRuntime, rows: &mut Rows, table: &[Option<MinutesLag>]) -> io::Result<()> {
+    match rows.ask_flow(table) {
+        Ok(FlowFound { flow, asked }) => {
+            let within = Outcome::new(Ok(()), &rows.answer);
+            println!(rt; ", flow {flow} in {asked} and {within}")
+        }
+        Err(fault) => {
+            let ended = Outcome::new(Err(fault), &[]);
+            println!(rt; ", flow {ended}")
+        }
+    }
+}
+
 fn show_plan(rt: &HostRuntime, rows: &mut Rows, table: &[Option<MinutesLag>]) -> io::Result<()>
     requires places { length table.now ≡ 3969 }
 {
@@ -47,7 +61,8 @@ fn show_plan(rt: &HostRuntime, rows: &mut Rows, table: &[Option<MinutesLag>]) ->
     let repaired = Outcome::new(ended, &rows.totals);
     let lags = count_lags(table);
     print!(rt; "{lags} lags, earliest {earliest}, latest {latest}, spread {spread}")?;
-    println!(rt; ", repaired {repaired}")
+    print!(rt; ", repaired {repaired}")?;
+    show_flow(rt, rows, table)
 }
 
 fn show_kind(
@@ -66,7 +81,8 @@ fn show_kind(
     Ok(())
 }
 
-/// Prints a line for each plan: its lags, and the sums over what the calls answer.
+/// Prints a line for each plan: its lags, the sums over what the calls answer, and the flow with
+/// how often it asked the solver.
 pub fn show_answers(rt: &HostRuntime) -> io::Result<()> {
     let mut table = [None; PLACES];
     let mut rows = Rows::new();

@@ -73,7 +73,7 @@ module _ {T A : Type 0} (kind : KindOf T A) (n : ℕ) where
         least = repaired_least w m (plan_lags kind n table) (plan_lags kind n after) (everywhere w) (meant kind first) (meant kind totals) (more p.put) h.known h.least p.repaired.least;
       }
 
-    pub zero_room : ((lag : A) → Within lag_limit (kind.amount lag)) → n ≤ most_stages → LeavesRoom m (meant kind first)
+    pub zero_room : ((lag : A) → Within lag_limit (kind.amount lag)) → n ≤ most_stages → LeavesRoom lag_limit m (meant kind first)
     zero_room amount_limit few = record {
       bound = 0 + m * lag_limit;
       within = repaired_inside lag_limit 0 w m (plan_lags kind n table) (everywhere w) (meant kind first) (omega arith) (lags_wide w kind.amount amount_wide m m table) (λ v u r v_in u_in e. WideRow-to w (everywhere w v) r e (everywhere_sized w m v v_in)) (λ v u a v_in u_in e. table_holds (Within lag_limit) kind.amount amount_limit m table v u a e) (λ v u r v_in u_in e. inside_to 0 (everywhere w v) r e (everywhere_inside w m v v_in)) (λ v v_in. some_none) h.known h.least;
@@ -81,6 +81,6 @@ module _ {T A : Type 0} (kind : KindOf T A) (n : ℕ) where
     }
 
   -- and so where a lag was put
-  pub zero_leaves : ((lag : A) → length (kind.amount lag) ≡ w) → ((lag : A) → Within lag_limit (kind.amount lag)) → n ≤ most_stages → (table : List (Option A)) (words : List ℕ) (totals : List (Option T)) (o : Option ℕ) → MatchOption o (LeastFromZero kind n table words totals) (λ len. Unit {0}) → MatchOption o (LeavesRoom m (meant kind totals)) (λ len. Unit {0})
+  pub zero_leaves : ((lag : A) → length (kind.amount lag) ≡ w) → ((lag : A) → Within lag_limit (kind.amount lag)) → n ≤ most_stages → (table : List (Option A)) (words : List ℕ) (totals : List (Option T)) (o : Option ℕ) → MatchOption o (LeastFromZero kind n table words totals) (λ len. Unit {0}) → MatchOption o (LeavesRoom lag_limit m (meant kind totals)) (λ len. Unit {0})
   zero_leaves amount_wide amount_limit few table words totals None h = zero_room amount_wide table words totals h amount_limit few
   zero_leaves amount_wide amount_limit few table words totals (Some len) h = tt

@@ -5,6 +5,11 @@ pub mod Counting
 pub mod Ends
 pub mod Filling
 pub mod Fits
+pub mod FlowAnswer
+pub mod FlowLoops
+pub mod FlowPairs
+pub mod FlowSearch
+pub mod FlowWords
 pub mod FoldsAt
 pub mod FromZero
 pub mod Halving

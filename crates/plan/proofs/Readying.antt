@@ -11,7 +11,8 @@ use Rattle.schedules.specs.Tables.{finish, events}
 use Rattle.schedules.specs.Folds.{StartsInside}
 use Rattle.plan.proofs.Passing.{finishes_given}
 use Rattle.schedules.specs.Closest.{Closest}
-use Rattle.schedules.specs.Nearing.{minute, Moved, MovedFits}
+use Rattle.schedules.specs.Nearing.{Moved, MovedFits}
+use Rattle.schedules.specs.Minutes.{minute}
 use Rattle.plan.specs.Passing.{lags_of}
 use Rattle.plan.specs.Timed.{due_of, best_of, largest_of}
 use Rattle.plan.specs.declared.calls.closest.timely.Timely.{Timely}

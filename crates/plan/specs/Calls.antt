@@ -1,13 +1,15 @@
 -- How each call ends, for every input, and the list of its checks. (What earliest, latest, finish,
--- backward and closest answer in the algebra, and latest as earliest, stands in Answers of algebra
--- and in Mirror, and in clauses of their own.) `kind` says what lags and totals mean, n is the
--- number of stages, `rows` has the number of places of each row that the call is lent.
-use Rattle.std.specs.Prelude.{◌≡◌, ℕ, max, List, [], ◌∷◌, ◌++◌, length, replicate, drop, ℤ, Some, None, Option, Result, slice_set}
+-- backward, closest and flow answer in the algebra stands in Answers and Theorems of algebra, latest
+-- as earliest in Mirror, flow as latest in FlowTheorems of schedules; in clauses of their own.)
+-- `kind` says what lags and totals mean, n is the number of stages, `rows` has the number of places
+-- of each row that the call is lent.
+use Rattle.std.specs.Prelude.{◌≡◌, ℕ, ◌+◌, ◌≤◌, max, List, [], ◌∷◌, ◌++◌, length, replicate, drop, ℤ, Some, None, Option, Result, slice_set}
 use Rattle.std.specs.Option.{option_map}
 use Rattle.marks.specs.declared.kind.Mark.{Ghosts}
-use Rattle.rows.specs.Limits.{most_stages}
+use Rattle.rows.specs.Limits.{flow_limit, most_stages}
 use Rattle.schedules.specs.Answers.{LeastTimes, GreatestTimes, Spread}
 use Rattle.schedules.specs.Closest.{Closest}
+use Rattle.schedules.specs.Flows.{Flow}
 use Rattle.schedules.specs.Plans.{Lags, Totals, with_lag}
 use Rattle.schedules.specs.Starts.{Finishes, Backward}
 use Rattle.schedules.specs.Tables.{events, places, place, OfStage, Cleared, lags, times}
@@ -15,6 +17,7 @@ use Rattle.plan.specs.Checks.{Check, head_checks, event_check, stage_check, lag_
 use Rattle.plan.specs.Endings.{Ended, Needs, Solved}
 use Rattle.plan.specs.Keeping.{FirstBroken}
 use Rattle.plan.specs.Waiting.{Waiting}
+use Rattle.plan.specs.declared.calls.flow.FlowFound.{FlowFound}
 use Rattle.plan.specs.declared.fault.PlanFault.{PlanFault}
 
 -- what the table of n stages means
@@ -245,3 +248,25 @@ ClosestEnds kind n table due starts after r =
     (λ e. RowWritten kind n (λ y. Closest n (lags_in kind n table) (times kind.row due) y e)
     starts after)
     (after ≡ starts) r
+
+-- flow
+
+abbrev pub flow_checks : ℕ → ℕ → List ℕ → List Check
+flow_checks = earliest_checks
+
+-- the least flow that some schedule is within, and each event's greatest time over those schedules
+abbrev pub FlowEnds :
+    {T A : Type 0} → Ghosts T A → ℕ → List (Option A) → (answer after : List (Option T))
+    → (rows loop_row loop_after : List ℕ) → Result ℕ PlanFault → Type 0
+FlowEnds kind n table answer after rows loop_row loop_after r =
+    Solved (needs_in kind n table (flow_checks n (length table) rows) loop_row loop_after)
+    (λ f. RowWritten kind n (Flow n (lags_in kind n table) f) answer after)
+    (after ≡ answer) r
+
+-- Of a flow with a count: it is within its limit, and the count is 1 to one more than the flow, and
+-- not 1 where the flow is not 0. (That it counts the numbers that were tried is no promise.)
+pub record FlowCounted (found : FlowFound) : Type 0 where
+  pub inside : found.flow ≤ flow_limit
+  pub some : 1 ≤ found.asked
+  pub more : 1 ≤ found.flow → 2 ≤ found.asked
+  pub few : found.asked ≤ found.flow + 1

@@ -3,6 +3,7 @@ pub mod Checks
 pub mod Endings
 pub mod Faults
 pub mod Filling
+pub mod FlowSteps
 pub mod Holding
 pub mod Keeping
 pub mod Mirror

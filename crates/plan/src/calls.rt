@@ -5,6 +5,7 @@ pub mod closest;
 pub mod drop;
 pub mod earliest;
 pub mod finish;
+pub mod flow;
 pub mod latest;
 pub mod open;
 pub mod set;

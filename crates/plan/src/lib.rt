@@ -8,6 +8,7 @@ pub use crate::calls::closest::closest;
 pub use crate::calls::drop::drop;
 pub use crate::calls::earliest::earliest;
 pub use crate::calls::finish::finish;
+pub use crate::calls::flow::{FlowFound, flow, flow_counted};
 pub use crate::calls::latest::latest;
 pub use crate::calls::open::open;
 pub use crate::calls::set::set;
@@ -18,8 +19,10 @@ pub use crate::fault::PlanFault;
 pub use crate::table::{Place, count_places};
 pub use crate::widths::{amounts_have_the_width, totals_have_the_width};
 pub use algebra::{
-    backward_is_residual, closest_is_residual, earliest_is_star, finish_is_product, latest_is_star,
+    backward_is_residual, closest_is_residual, earliest_is_star, finish_is_product,
+    flow_is_greatest_mean, latest_is_star,
 };
+pub use schedules::flows_are_lags;
 
 mod calls;
 mod checks;

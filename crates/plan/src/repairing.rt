@@ -2,6 +2,7 @@
 ghost use Rattle.std.specs.Prelude.{◌≡◌, ◌<◌, ◌≤◌, length, replicate, None, MatchOption, slice_index_or};
 ghost use Rattle.plan.specs.Checks.{Laid};
 ghost use Rattle.plan.specs.Repairing.{LeastFromZero, PutEnds, meant, plan_lags};
+ghost use Rattle.rows.specs.Limits.{lag_limit};
 ghost use Rattle.schedules.specs.Plans.{AllKnown, KeepsLags};
 ghost use Rattle.schedules.specs.Rounds.{total_of};
 ghost use Rattle.schedules.specs.Tables.{events, place, places};
@@ -44,7 +45,7 @@ pub fn put_repaired<K: Mark>(
     requires known { AllKnown (events stages) (meant K.Mark work.old.totals.now) }
     requires keeps { KeepsLags K.Mark.WIDTH (events stages) (plan_lags K.Mark stages table.old)
         (λ v. total_of K.Mark.WIDTH (meant K.Mark work.old.totals.now v)) }
-    requires leaves { LeavesRoom (events stages) (meant K.Mark work.old.totals.now) }
+    requires leaves { LeavesRoom lag_limit (events stages) (meant K.Mark work.old.totals.now) }
     requires room { HasRoom (events stages) work.old }
     requires places { events stages ≤ length loop_row.old }
     ensures ends { PutEnds K.Mark stages to from lag table.old table.new standing.old standing.new
@@ -120,7 +121,7 @@ pub fn put_from_zero<K: Mark>(
     ensures least { MatchOption result
         (LeastFromZero K.Mark stages table.new standing.new work.new.totals.now) (λ _. Unit {0}) }
     ensures leaves { MatchOption result
-        (LeavesRoom (events stages) (meant K.Mark work.new.totals.now)) (λ _. Unit {0}) }
+        (LeavesRoom lag_limit (events stages) (meant K.Mark work.new.totals.now)) (λ _. Unit {0}) }
     ensures rows { SameRows work.new work.old }
 {
     put_repaired(stages, table, standing, to, from, lag, work, loop_row)

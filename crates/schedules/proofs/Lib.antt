@@ -6,6 +6,7 @@ pub mod Covered
 pub mod Earliest
 pub mod Fewer
 pub mod Firsts
+pub mod Flows
 pub mod Folds
 pub mod Found
 pub mod Inside

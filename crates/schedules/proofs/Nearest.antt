@@ -15,9 +15,10 @@ use Rattle.schedules.specs.Folds.{StartsInside, finish_of}
 use Rattle.schedules.proofs.Folds.{finish_is}
 use Rattle.schedules.proofs.Widths.{added_wide, lag_wide, start_wide}
 use Rattle.rows.proofs.Options.{none_or_some, same_some}
-use Rattle.schedules.specs.Closest.{minutes, Near, AllNear, Closest}
+use Rattle.schedules.specs.Closest.{Near, AllNear, Closest}
+use Rattle.schedules.specs.Minutes.{minutes, minute}
 use Rattle.schedules.specs.Served.{lag_into, lag_from, AllServed}
-use Rattle.schedules.specs.Nearing.{minute, miss, largest, Moved, MovedFits}
+use Rattle.schedules.specs.Nearing.{miss, largest, Moved, MovedFits}
 use Rattle.schedules.proofs.Largest.{largest_bound, largest_attained}
 use Rattle.schedules.proofs.One.{one_part, there, from_not_before, to_not_before, same_part, added_one}
 use Rattle.schedules.proofs.Serving.{any_found, some_of}

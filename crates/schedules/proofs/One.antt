@@ -1,10 +1,10 @@
 -- Rows of one part, as numbers.
-use Rattle.std.proofs.Common.{◌≡◌, [], ◌∷◌, length, ℤ, ◌+ℤ◌, ◌≤ℤ◌, Some, None, Option, sym, refl, ap, ◌∙◌, inl, inr, arith}
+use Rattle.std.proofs.Common.{◌≡◌, [], ◌∷◌, length, ℤ, pos, ◌+ℤ◌, ◌≤ℤ◌, ◌<ℤ◌, Some, None, Option, sym, refl, ap, ◌∙◌, subst, subst₂, inl, inr, arith}
 use Rattle.std.proofs.lemmas.Int.{ints, by_lt_z}
 use Rattle.rows.specs.MaxPlus.{added}
-use Rattle.rows.specs.Rows.{Row, NotBefore, plus}
+use Rattle.rows.specs.Rows.{Row, zeros, plus, Before, NotBefore}
 use Rattle.rows.proofs.Options.{none_or_some, same_some, both_some}
-use Rattle.schedules.specs.Nearing.{minute}
+use Rattle.schedules.specs.Minutes.{minute}
 
 pub one_part : (r : Row) → length r ≡ 1 → r ≡ minute (Some r) ∷ []
 one_part [] e = absurd (omega arith)
@@ -22,6 +22,24 @@ from_not_before a b h = by_lt_z a b (λ l. absurd (h (inl l))) (λ l. l)
 pub to_not_before : (a b : ℤ) → b ≤ℤ a → NotBefore (a ∷ []) (b ∷ [])
 to_not_before a b h (inl l) = omega (arith, ints)
 to_not_before a b h (inr p) = p.1
+
+-- so with their minutes
+
+pub minute_from : (r s : Row) → length r ≡ 1 → length s ≡ 1 → NotBefore r s → minute (Some s) ≤ℤ minute (Some r)
+minute_from r s d e h = from_not_before (minute (Some r)) (minute (Some s)) (subst₂ NotBefore (one_part r d) (one_part s e) h)
+
+pub minute_to : (r s : Row) → length r ≡ 1 → length s ≡ 1 → minute (Some s) ≤ℤ minute (Some r) → NotBefore r s
+minute_to r s d e h = subst₂ NotBefore (sym (one_part r d)) (sym (one_part s e)) (to_not_before (minute (Some r)) (minute (Some s)) h)
+
+pub minute_after : (r : Row) → length r ≡ 1 → Before (zeros 1) r → pos 0 <ℤ minute (Some r)
+minute_after r e h = go (minute (Some r)) (subst (Before (zeros 1)) (one_part r e) h)
+  where
+    go : (z : ℤ) → Before (zeros 1) (z ∷ []) → pos 0 <ℤ z
+    go z (inl l) = l
+    go z (inr p) = absurd p.1
+
+pub minute-plus : (r s : Row) → length r ≡ 1 → length s ≡ 1 → minute (Some (plus r s)) ≡ minute (Some r) +ℤ minute (Some s)
+minute-plus r s d e = ap (λ (q : Row). minute (Some (plus q s))) (one_part r d) ∙ ap (λ (q : Row). minute (Some (plus (minute (Some r) ∷ []) q))) (one_part s e)
 
 pub same_part : (a b : ℤ) → ◌≡◌ {A = Option Row} (Some (a ∷ [])) (Some (b ∷ [])) → a ≡ b
 same_part a b e = cc

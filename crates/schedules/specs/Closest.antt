@@ -1,13 +1,10 @@
 -- Starts whose finishes come as close to their due times as any starts' finishes can.
-use Rattle.std.specs.Prelude.{◌≡◌, ℕ, ◌≤◌, [], ◌∷◌, length, pos, Some, None}
+use Rattle.std.specs.Prelude.{◌≡◌, ℕ, ◌≤◌, length, Some, None}
 use Rattle.rows.specs.Rows.{Row, plus, minus, NotBefore}
+use Rattle.schedules.specs.Minutes.{minutes}
 use Rattle.schedules.specs.Plans.{Lags, Totals}
 use Rattle.schedules.specs.Tables.{start, finish}
 use Rattle.schedules.specs.Starts.{Finished, NoneAfter}
-
--- so many minutes
-abbrev pub minutes : ℕ → Row
-minutes e = pos e ∷ []
 
 -- neither before due - e nor after due + e
 pub record Near (e : ℕ) (due end : Row) : Type 0 where

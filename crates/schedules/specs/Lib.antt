@@ -1,7 +1,10 @@
 pub mod Answers
 pub mod Closest
 pub mod Firsts
+pub mod FlowTheorems
+pub mod Flows
 pub mod Folds
+pub mod Minutes
 pub mod Nearing
 pub mod Plans
 pub mod Rounds

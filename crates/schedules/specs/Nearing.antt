@@ -1,19 +1,14 @@
 -- The steps to the closest starts: finishes, their largest distance from the due times, and starts
 -- all moved alike.
-use Rattle.std.specs.Prelude.{◌≡◌, ℕ, zero, suc, ◌≤◌, max, [], ◌∷◌, ℤ, pos, ◌+ℤ◌, ◌-ℤ◌, Some, None, Option, unsigned_abs}
+use Rattle.std.specs.Prelude.{◌≡◌, ℕ, zero, suc, ◌≤◌, max, [], ◌∷◌, pos, ◌+ℤ◌, ◌-ℤ◌, Some, None, Option, unsigned_abs}
 use Rattle.rows.specs.Limits.{total_limit}
 use Rattle.rows.specs.Rows.{Row, Within}
+use Rattle.schedules.specs.Minutes.{minute}
 use Rattle.schedules.specs.Plans.{Lags, Totals}
 use Rattle.schedules.specs.Tables.{start, finish}
 use Rattle.schedules.specs.Starts.{Backward}
 use Rattle.schedules.specs.Folds.{finish_of}
 use Rattle.schedules.specs.Served.{AllServed}
-
--- the first part of a row, and 0 where there is none
-abbrev pub minute : Option Row → ℤ
-minute None = pos 0
-minute (Some []) = pos 0
-minute (Some (z ∷ zs)) = z
 
 -- how far the finish of stage j from the starts x is from its due time in d
 abbrev pub miss : ℕ → Lags → Totals → Totals → ℕ → ℕ

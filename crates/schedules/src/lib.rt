@@ -2,6 +2,7 @@
 #![tactic(auto)]
 
 ghost use Rattle.schedules.specs.Firsts.{FirstsAreExact, KnownIsSchedule, RepairsStayLeast, FirstsStayInside};
+ghost use Rattle.schedules.specs.FlowTheorems.{FlowsAreLags};
 ghost use Rattle.schedules.specs.Theorems.{ScheduleOrLoop, TimesCombine, TimesAreExact, LatestAreExact, ReversalMirrors, SumsStayInside};
 
 /// A plan has a schedule or a loop, and never both; totals that settle from everywhere at zero are
@@ -54,4 +55,11 @@ pub fn firsts_stay_inside()
 /// there is room for one lag more than events.
 pub fn sums_stay_inside()
     ensures { SumsStayInside }
+{}
+
+/// For minutes: the schedules that end every stage within f are those of the plan with minus f put
+/// to each start from its finish, where a later lag does not stand. So the flow is the least f with
+/// which that plan has a schedule, and the greatest times within it are those of that plan.
+pub fn flows_are_lags()
+    ensures { FlowsAreLags }
 {}

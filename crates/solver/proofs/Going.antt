@@ -4,16 +4,17 @@ use Rattle.std.specs.Int.{bit_at, trailing_zeros}
 use Rattle.std.specs.Option.{MatchOption}
 use Rattle.std.proofs.lemmas.Nat.Bits.{bit_at-zero, bit_at-trailing_zeros}
 use Rattle.rows.specs.Rows.{Row}
-use Rattle.rows.specs.Limits.{lag_limit, total_limit}
+use Rattle.rows.specs.Limits.{total_limit}
 use Rattle.schedules.specs.Firsts.{FirstsInside}
 use Rattle.schedules.specs.Plans.{Lags, Totals, Wide}
 use Rattle.schedules.specs.Rounds.{rounds, Settled, Changed}
 use Rattle.schedules.specs.Walks.{Apart, Source, Traced}
 use Rattle.schedules.proofs.Came.{CameSoFar, LastRise, came_start, came_step, came_from, came_rooted}
+use Rattle.schedules.proofs.Inside.{firsts_inside}
 use Rattle.schedules.proofs.Rounds.{WideTotals, into_same}
 use Rattle.solver.specs.Networks.{SumsInside}
 use Rattle.solver.specs.Raising.{Idle, WentRound}
-use Rattle.solver.specs.Settled.{LeavesRoom, SettledAfter}
+use Rattle.solver.specs.Settled.{LeavesRoomFor, SettledAfter}
 use Rattle.solver.specs.Trails.{from_in, PartSought}
 use Rattle.solver.specs.Words.{Among, Copied, EventIn}
 use Rattle.solver.proofs.Bits.{set_or_not}
@@ -150,12 +151,15 @@ module _ (w m : ℕ) (few : m ≤ 63) (L : Lags) (wide : Wide w m L) (b : Totals
             word_changed v.0 v.1 v.2 (f v.0 v.1)
 
 -- first totals that leave room let every round fit
-module _ (m : ℕ) (L : Lags) (b : Totals) (leaves : LeavesRoom m b) where
-  pub rounds_fit : (inside : FirstsInside lag_limit leaves.bound m L b) (k : ℕ) → k < m → SumsInside m L (rounds m L b k)
-  rounds_fit inside k k_in v u t a v_in u_in e l = inside.sums m total_limit k k_in leaves.room v u t a v_in u_in e l
+module _ (m : ℕ) (L : Lags) (b : Totals) (room : LeavesRoomFor m L b) where
+  firsts : FirstsInside room.limit room.leaves.bound m L b
+  firsts = firsts_inside room.limit room.leaves.bound m L b room.limited room.leaves.within
 
-  pub going_fits : (S : Totals) (k : ℕ) → FirstsInside lag_limit leaves.bound m L b → k < m → Alike m S (rounds m L b k) → SumsInside m L S
-  going_fits S k inside k_in same v u t a v_in u_in e l = rounds_fit inside k k_in v u t a v_in u_in (sym (same u u_in) ∙ e) l
+  pub rounds_fit : (k : ℕ) → k < m → SumsInside m L (rounds m L b k)
+  rounds_fit k k_in v u t a v_in u_in e l = firsts.sums m total_limit k k_in room.leaves.room v u t a v_in u_in e l
+
+  pub going_fits : (S : Totals) (k : ℕ) → k < m → Alike m S (rounds m L b k) → SumsInside m L S
+  going_fits S k k_in same v u t a v_in u_in e l = rounds_fit k k_in v u t a v_in u_in (sym (same u u_in) ∙ e) l
 
 -- a walk back that met no event twice
 pub part_none : (n : ℕ) (p : ℕ → ℕ) (row after : List ℕ) (r : Option ℕ) → r ≡ None → PartSought n p row after r → Apart p (n + 1) × (after ≡ row)

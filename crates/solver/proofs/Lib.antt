@@ -3,6 +3,7 @@ pub mod Bits
 pub mod Cells
 pub mod Copying
 pub mod Finding
+pub mod FlowNets
 pub mod Going
 pub mod Masking
 pub mod Nets

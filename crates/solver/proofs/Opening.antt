@@ -5,10 +5,10 @@ use Rattle.std.proofs.lemmas.Nat.Bits.{bit_at-zero}
 use Rattle.std.specs.Int.{bit_at}
 use Rattle.std.specs.Option.{option_map}
 use Rattle.std.specs.Result.{result_err}
-use Rattle.rows.specs.Limits.{given_limit, most_events}
+use Rattle.rows.specs.Limits.{given_limit}
 use Rattle.rows.specs.MaxPlus.{added}
 use Rattle.rows.specs.Rows.{Row, zeros, Within}
-use Rattle.rows.proofs.Limits.{few_fit, given_few_fit}
+use Rattle.rows.proofs.Limits.{given_few_fit}
 use Rattle.rows.proofs.Options.{none_or_some, same_some}
 use Rattle.rows.proofs.Sums.{Within-zeros}
 use Rattle.marks.specs.declared.kind.Mark.{Ghosts as KindOf}
@@ -21,7 +21,7 @@ use Rattle.schedules.proofs.Rounds.{into_same}
 use Rattle.solver.specs.declared.network.Network.{Ghosts as NetworkOf}
 use Rattle.solver.specs.Networks.{Net}
 use Rattle.solver.specs.Raising.{Idle}
-use Rattle.solver.specs.Settled.{GivenLeaveRoom, LeavesRoom, SettledAt}
+use Rattle.solver.specs.Settled.{GivenLeaveRoom, LeavesRoomFor, SettledAt}
 use Rattle.solver.specs.Solving.{AreLeast, HasSchedule, LeastOrLoop, EndsIn, OpeningEnds, RestEnds, RoundsEnd}
 use Rattle.solver.specs.Words.{Added, Among, in_word}
 use Rattle.solver.proofs.Cells.{times_set_same, times_set_other}
@@ -39,11 +39,15 @@ module _ (m : ℕ) (L : Lags) (S R : Totals) (same : Alike m S R) where
   settled_alike k f v v_in = sym (rounds_alike (suc k) v v_in) ∙ f v v_in ∙ rounds_alike k v v_in
 
 -- first totals at zero leave room
-pub leaves_zero : (w m : ℕ) → m ≤ most_events → (b : Totals) → ((v : ℕ) (r : Row) → v < m → b v ≡ Some r → r ≡ zeros w) → LeavesRoom m b
-leaves_zero w m few b at_zero = record {
-  bound = 0;
-  within = λ v u r v_in u_in e. subst (Within 0) (sym (at_zero v r v_in e)) (Within-zeros 0 w);
-  room = omega (arith, few_fit m few);
+pub leaves_zero : (w m : ℕ) (L : Lags) → Net w m L → (b : Totals) → ((v : ℕ) (r : Row) → v < m → b v ≡ Some r → r ≡ zeros w) → LeavesRoomFor m L b
+leaves_zero w m L net b at_zero = record {
+  limit = net.limit;
+  limited = net.limited;
+  leaves = record {
+    bound = 0;
+    within = λ v u r v_in u_in e. subst (Within 0) (sym (at_zero v r v_in e)) (Within-zeros 0 w);
+    room = omega (arith, net.room);
+  };
 }
 
 -- and so do given totals
@@ -54,8 +58,8 @@ opening_zero : (w v : ℕ) (r : Row) → opening w v ≡ Some r → r ≡ zeros 
 opening_zero w zero r e = same_some r (zeros w) (sym e)
 opening_zero w (suc v) r e = absurd (none_or_some r e)
 
-pub leaves_opening : (w m : ℕ) → m ≤ most_events → (b : Totals) → Alike m b (opening w) → LeavesRoom m b
-leaves_opening w m few b same = leaves_zero w m few b (λ v r v_in e. opening_zero w v r (sym (same v v_in) ∙ e))
+pub leaves_opening : (w m : ℕ) (L : Lags) → Net w m L → (b : Totals) → Alike m b (opening w) → LeavesRoomFor m L b
+leaves_opening w m L net b same = leaves_zero w m L net b (λ v r v_in e. opening_zero w v r (sym (same v v_in) ∙ e))
 
 -- the row of the opening alone
 pub opening_row : {T : Type 0} (row : T → Row) (w m : ℕ) (xs : List (Option T)) (z : T) → row z ≡ zeros w → 0 < length xs → ((v : ℕ) → v < m → slice_index_or xs v None ≡ None) → Alike m (times row (set xs 0 (Some z))) (opening w)
@@ -105,8 +109,8 @@ module _ {S T A : Type 0} (network : NetworkOf S T A) (kind : KindOf T A) (net :
     pub word_at_zero : (v : ℕ) → v < network.size net → bit_at word v ≡ 1 → times kind.row xs v ≡ Some (zeros kind.WIDTH)
     word_at_zero v v_in b = ap (option_map kind.row) (inside v v_in b) ∙ ap Some at_zero
 
-    pub word_leaves : network.size net ≤ most_events → LeavesRoom (network.size net) (times kind.row xs)
-    word_leaves few = leaves_zero kind.WIDTH (network.size net) few (times kind.row xs) (λ v r v_in e. go v r v_in e (set_or_not word v))
+    pub word_leaves : (L : Lags) → Net kind.WIDTH (network.size net) L → LeavesRoomFor (network.size net) L (times kind.row xs)
+    word_leaves L has = leaves_zero kind.WIDTH (network.size net) L has (times kind.row xs) (λ v r v_in e. go v r v_in e (set_or_not word v))
       where
         go : (v : ℕ) (r : Row) → v < network.size net → times kind.row xs v ≡ Some r → (bit_at word v ≡ 0) ⊎ (bit_at word v ≡ 1) → r ≡ zeros kind.WIDTH
         go v r v_in e (inl b) = absurd (none_or_some r (sym (word_unknown v v_in b) ∙ e))

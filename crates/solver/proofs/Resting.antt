@@ -3,7 +3,6 @@ use Rattle.std.proofs.Common.{◌≡◌, ℕ, true, [], ◌∷◌, refl, length,
 use Rattle.std.proofs.lemmas.Bool.{cases_eq, eq-eqb, eqb-true}
 use Rattle.std.proofs.lemmas.Nat.Bits.{bit_at-zero}
 use Rattle.std.specs.Int.{bit_at}
-use Rattle.rows.specs.Limits.{lag_limit}
 use Rattle.rows.specs.Rows.{Row, zeros}
 use Rattle.rows.proofs.Options.{none_or_some}
 use Rattle.schedules.specs.Answers.{LeastTimes}
@@ -40,8 +39,15 @@ none_stand w m few L words long stands none (e ∷ es) l = go es l.2.1.0
 -- the lags to the events of a word
 
 module _ (w m : ℕ) (L : Lags) (net : Net w m L) (rest : ℕ) where
-  into_net : Net w m (lags_into (in_word rest) L)
-  into_net = record { some = net.some; few = net.few; wide = into_wide (in_word rest) L w m net.wide; limited = into_limited (in_word rest) L lag_limit m net.limited }
+  pub into_net : Net w m (lags_into (in_word rest) L)
+  into_net = record {
+    some = net.some;
+    few = net.few;
+    wide = into_wide (in_word rest) L w m net.wide;
+    limit = net.limit;
+    limited = into_limited (in_word rest) L net.limit m net.limited;
+    room = net.room;
+  }
 
   -- a loop of them begins in the word
   loop_begins : (e : ℕ) (es : List ℕ) → Loop w m (lags_into (in_word rest) L) (e ∷ es) → (e < m) × (bit_at rest e ≡ 1)

@@ -1,7 +1,7 @@
 -- What a network offers a solver.
-use Rattle.std.specs.Prelude.{◌≡◌, ℕ, ◌<◌, ◌≤◌, Some, None, Option}
+use Rattle.std.specs.Prelude.{◌≡◌, ℕ, ◌*◌, ◌<◌, ◌≤◌, Some, None, Option}
 use Rattle.rows.specs.Rows.{Row, plus, Within}
-use Rattle.rows.specs.Limits.{lag_limit, total_limit, most_events}
+use Rattle.rows.specs.Limits.{total_limit, most_events}
 use Rattle.marks.specs.Meaning.{TotalOf}
 use Rattle.schedules.specs.Plans.{Lags, Totals, Wide, Limited}
 
@@ -17,9 +17,12 @@ SumsInside m L S =
     (v u : ℕ) (t a : Row) → v < m → u < m
     → S u ≡ Some t → L v u ≡ Some a → Within total_limit (plus t a)
 
--- What the solver needs of m events and the lags between them, of width w.
+-- What the solver needs of m events and the lags between them, of width w: the lags have a limit,
+-- and m of them in a row do not lead from zero beyond the limit of totals.
 pub record Net (w m : ℕ) (L : Lags) : Type 0 where
   pub some : 1 ≤ m
   pub few : m ≤ most_events
   pub wide : Wide w m L
-  pub limited : Limited lag_limit m L
+  pub limit : ℕ
+  pub limited : Limited limit m L
+  pub room : m * limit ≤ total_limit

@@ -5,17 +5,24 @@ use Rattle.schedules.specs.Firsts.{CameFrom, Rooted}
 use Rattle.schedules.specs.Plans.{Lags, Totals, Limited, columns}
 use Rattle.schedules.specs.Rounds.{rounds, Settled}
 
--- The totals of m events are within `bound`, and as many lags further nothing is beyond the limit
--- of totals.
-pub record LeavesRoom (m : ℕ) (b : Totals) : Type 0 where
+-- The totals of m events are within `bound`, and as many lags further, none of them beyond `limit`,
+-- nothing is beyond the limit of totals.
+pub record LeavesRoom (limit m : ℕ) (b : Totals) : Type 0 where
   pub bound : ℕ
   pub within : Limited bound m (columns b)
-  pub room : bound + m * lag_limit ≤ total_limit
+  pub room : bound + m * limit ≤ total_limit
 
--- Totals within the limit of given totals leave room, in a plan of any size.
+-- The totals leave room for as many of the lags L.
+pub record LeavesRoomFor (m : ℕ) (L : Lags) (b : Totals) : Type 0 where
+  pub limit : ℕ
+  pub limited : Limited limit m L
+  pub leaves : LeavesRoom limit m b
+
+-- Totals within the limit of given totals leave room for lags within theirs, in a plan of any size.
 abbrev pub GivenLeaveRoom : Type 0
 GivenLeaveRoom =
-    (m : ℕ) (b : Totals) → m ≤ most_events → Limited given_limit m (columns b) → LeavesRoom m b
+    (m : ℕ) (b : Totals) → m ≤ most_events → Limited given_limit m (columns b)
+    → LeavesRoom lag_limit m b
 
 -- The totals S of m events are those after k rounds from b, and a round more changes nothing.
 pub record SettledAt (m : ℕ) (L : Lags) (b S : Totals) (k : ℕ) : Type 0 where

@@ -13,7 +13,7 @@ use Rattle.solver.specs.declared.network.Network.{Ghosts as NetworkOf}
 use Rattle.solver.specs.Networks.{SumsInside}
 use Rattle.solver.specs.Raising.{Followed, Idle, WentRound}
 use Rattle.solver.specs.Repairing.{KeepsOthers, Repaired}
-use Rattle.solver.specs.Settled.{LeavesRoom, SettledAfter, SettledAt}
+use Rattle.solver.specs.Settled.{LeavesRoomFor, SettledAfter, SettledAt}
 use Rattle.solver.specs.Words.{Among, in_word}
 
 -- Rounds from the first totals settled after so many, and the row is as it was; or a loop of that
@@ -75,7 +75,7 @@ module _ {S T A : Type 0} (network : NetworkOf S T A) (kind : KindOf T A) (net :
 
   -- The first totals leave room for as many lags as there are events.
   abbrev pub LeaveRoom : List (Option T) → Type 0
-  LeaveRoom totals = LeavesRoom m (meant totals)
+  LeaveRoom totals = LeavesRoomFor m L (meant totals)
 
   -- Rounds from the first totals settled, or a loop is in the first places of the row.
   abbrev pub RoundsEnd :

@@ -88,7 +88,8 @@ fn known_events<K: Mark>(count: usize, totals: &[Option<K>]) -> u64
     known
 }
 
-/// Totals within the limit of given totals leave room, as [`settle_from`] asks of the first totals.
+/// Totals within the limit of given totals leave room for lags within the limit of lags, as
+/// [`settle_from`] asks of the first totals.
 pub fn given_totals_leave_room()
     ensures { GivenLeaveRoom }
 {}

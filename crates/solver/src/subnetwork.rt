@@ -27,8 +27,10 @@ impl<N: Network> Network for Subnetwork<N> {
       few = (N.Network.sound part.net).few;
       wide = into_wide (in_word part.word) (N.Network.weight part.net) _ _
           (N.Network.sound part.net).wide;
+      limit = (N.Network.sound part.net).limit;
       limited = into_limited (in_word part.word) (N.Network.weight part.net) _ _
           (N.Network.sound part.net).limited;
+      room = (N.Network.sound part.net).room;
     } };
 
     fn events(&self) -> usize {

@@ -1,6 +1,7 @@
 // A walk through worked plans: what each call is asked, and what it answers.
 #![tactic(auto)]
 
+mod flow_plan;
 mod minutes_plan;
 mod nearest_plan;
 mod shared;
@@ -142,5 +143,6 @@ fn main(rt: HostRuntime) -> io::Result<()> {
     show_outcome(&rt, plan::open::<Minutes>(32, &mut table))?;
     minutes_plan::walk(&rt)?;
     stamps_plan::walk(&rt)?;
-    nearest_plan::walk(&rt)
+    nearest_plan::walk(&rt)?;
+    flow_plan::walk(&rt)
 }

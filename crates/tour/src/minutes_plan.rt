@@ -1,6 +1,6 @@
-// A plan of two stages in minutes, built by set: its earliest and latest times, and a due date
-// tightened until it contradicts.
-use crate::shared::set_lag;
+// A plan of two stages in minutes, built by set: its earliest and latest times, its flow, and a due
+// date tightened until it contradicts.
+use crate::shared::{set_lag, show_flow};
 use crate::show::{show_outcome, show_refusal, show_times};
 use marks::minutes::{Minutes, MinutesLag};
 use marks::turned::Turned;
@@ -125,6 +125,8 @@ pub fn walk(rt: &HostRuntime) -> io::Result<()> {
     work.show_earliest(rt, &table)?;
     work.show_latest(rt, &table)?;
     work.show_spread(rt, &table, 4)?;
+    println!(rt; "the flow")?;
+    show_flow(rt, STAGES, &table, &ALL)?;
     work.set(rt, &mut table, 0, 4, -225)?;
     work.set(rt, &mut table, 0, 4, -224)?;
     work.show_latest(rt, &table)

@@ -1,5 +1,5 @@
 // What the walks share.
-use crate::show::{show_refusal, show_set};
+use crate::show::{show_refusal, show_set, show_times};
 use marks::kind::Mark;
 use marks::minutes::{Minutes, MinutesLag};
 use rows::MOST_EVENTS;
@@ -54,4 +54,29 @@ pub fn set_lag<K: Mark>(
     let mut loop_row = [0; MOST_EVENTS];
     let outcome = plan::set::<K>(stages, table, to, from, parts, totals, next, &mut loop_row);
     show_set(rt, outcome, &loop_row)
+}
+
+// The flow of the plan, and the latest times within it of some events.
+pub fn show_flow(
+    rt: &HostRuntime,
+    stages: usize,
+    table: &[Option<MinutesLag>],
+    events: &[usize],
+) -> io::Result<()> {
+    let mut times = [None; MOST_EVENTS];
+    let outcome = plan::flow(
+        stages,
+        table,
+        &mut times,
+        &mut [None; MOST_EVENTS],
+        &mut [None; MOST_EVENTS],
+        &mut [None; MOST_EVENTS],
+        &mut [None; MOST_EVENTS],
+        &mut [0; MOST_EVENTS],
+    );
+    match outcome {
+        Ok(flow) => println!(rt; "  every stage ends within {flow} of its start")?,
+        Err(fault) => return show_refusal(rt, fault),
+    }
+    show_times(rt, "latest times", &times, events)
 }

@@ -3,7 +3,7 @@ use Rattle.std.proofs.Common.{◌≡◌, ℕ, ◌+◌, ◌<◌, ◌≤◌, true,
 use Rattle.std.proofs.lemmas.Bool.{cases_eq}
 use Rattle.std.proofs.lemmas.List.{get_or-take, get_or_read, length-take-le}
 use Rattle.std.specs.Option.{option_map}
-use Rattle.rows.specs.Limits.{given_limit, most_events}
+use Rattle.rows.specs.Limits.{given_limit, lag_limit, most_events}
 use Rattle.rows.specs.Rows.{Row, Within, inside}
 use Rattle.rows.proofs.Limits.{relations, two_fit}
 use Rattle.rows.proofs.Options.{none_or_some, same_some}
@@ -16,7 +16,7 @@ use Rattle.solver.specs.Settled.{LeavesRoom}
 abbrev pub Near : ℕ → Totals → Type 0
 Near n b = (v : ℕ) (r : Row) → v < n → b v ≡ Some r → Within given_limit r
 
-pub near_leaves : (m : ℕ) → m ≤ most_events → (b : Totals) → Near m b → LeavesRoom m b
+pub near_leaves : (m : ℕ) → m ≤ most_events → (b : Totals) → Near m b → LeavesRoom lag_limit m b
 near_leaves m few b near = record {
   bound = given_limit;
   within = λ v u r v_in u_in e. near v r v_in e;

@@ -1,4 +1,5 @@
-// Every call but closest at each kind of mark: scripts with the same answers at all of them.
+// Every call but closest and flow at each kind of mark: scripts with the same answers at all of
+// them.
 use crate::plans::{MANY_STAGES, TWO_STAGES};
 use crate::scheduling::{FOUR_STAGES, TURNS};
 use crate::shared::Trial;

@@ -14,7 +14,7 @@ ghost use Rattle.std.specs.Prelude.{
   slice_index_or,
   IsTrue,
 };
-ghost use Rattle.rows.specs.Limits.{most_events};
+ghost use Rattle.rows.specs.Limits.{lag_limit, most_events};
 ghost use Rattle.schedules.specs.Tables.{lags, place, times};
 ghost use Rattle.solver.proofs.Nets.{table_net};
 ghost use Rattle.solver.specs.Settled.{LeavesRoom};
@@ -117,7 +117,7 @@ fn note_from<K: Mark>(net: &Laid<'_, K>, standing: &mut Standing, from: usize)
 fn leave_room<K: Mark>(count: usize, totals: &[Option<K>]) -> bool
     requires few { count ≤ most_events }
     requires totals { count ≤ length totals.now }
-    ensures { IsTrue result → LeavesRoom count (times K.Mark.row totals.now) }
+    ensures { IsTrue result → LeavesRoom lag_limit count (times K.Mark.row totals.now) }
 {
     for total in &totals[..count] {
         if let Some(total) = total

@@ -3,6 +3,7 @@
 use crate::reading::{Unread, read_lags};
 use marks::fault::{Layer, MarkFault};
 use marks::kind::Mark;
+use marks::minutes::Minutes;
 use marks::turned::Turned;
 use plan::PlanFault;
 use solver::work::Work;
@@ -99,7 +100,7 @@ pub(crate) const LOOP: Result<Answer, Missed> = Err((14, Layer::Plan));
 // What no check of the planner names.
 pub(crate) const UNFIT: Result<Answer, Missed> = Err((0, Layer::Plan));
 
-pub(crate) fn numbered<A>(outcome: Result<A, PlanFault>) -> Result<A, Missed> {
+fn numbered<A>(outcome: Result<A, PlanFault>) -> Result<A, Missed> {
     outcome.map_err(|fault| (fault.number(), fault.layer()))
 }
 
@@ -415,5 +416,25 @@ impl<K: Mark> Trial<K> {
             assert!(rt; self.holds(*step)?, "{step:?}");
         }
         Ok(())
+    }
+}
+
+impl Trial<Minutes> {
+    pub fn closest(&mut self) -> Result<u64, Missed> {
+        numbered(plan::closest(self.stages, &self.table, &self.given, &mut self.answer))
+    }
+
+    pub fn flow(&mut self) -> Result<u64, Missed> {
+        let ended = plan::flow(
+            self.stages,
+            &self.table,
+            &mut self.answer,
+            &mut self.totals,
+            &mut self.next,
+            &mut self.turned,
+            &mut self.turned_next,
+            &mut self.loop_row,
+        );
+        self.noted(ended)
     }
 }

@@ -1,6 +1,7 @@
 use Rattle.std.proofs.Common.{◌≤◌, Some, None, refl, arith}
-use Rattle.rows.specs.Limits.{most_events}
+use Rattle.rows.specs.Limits.{lag_limit, most_events}
 use Rattle.schedules.specs.Tables.{events, place}
+use Rattle.solver.proofs.Nets.{table_limited}
 use Rattle.plan.proofs.Putting.{after_keeps, after_stands, put_back, sought_put}
 use Rattle.plan.proofs.repairing.put_repaired.Goals as goal
 
@@ -10,6 +11,10 @@ repair-found-requires-clause-standing g c =
     let few : m ≤ most_events = omega (arith, c.requires.laid.most) in
     let put = c.put_lag.ensures few c.requires.to c.requires.from in
     after_stands m g.K.Mark.amount c.args.table.now c.args.to c.args.from c.args.lag _ c.requires.laid.full c.requires.to c.requires.from refl c.put_lag.new.table put c.args.standing.now c.note_lag.new.standing (omega (arith, few, c.requires.from, c.note_lag.array_long)) c.note_lag.ensures c.requires.standing
+
+pub repair-found-requires-clause-leaves : goal.repair-found-requires-clause-leaves
+repair-found-requires-clause-leaves g c =
+    record { limit = lag_limit; limited = table_limited g.K.Mark.amount g.met.K.Mark.amount_limit (events c.args.stages) c.put_lag.new.table; leaves = c.requires.leaves }
 
 pub repair-found-requires-clause-keeps : goal.repair-found-requires-clause-keeps
 repair-found-requires-clause-keeps g c =

@@ -5,7 +5,8 @@ ghost use Rattle.plan.specs.Calls.{RowWritten};
 ghost use Rattle.plan.specs.Passing.{lags_of};
 ghost use Rattle.plan.specs.Timed.{due_of, best_of, miss_of, largest_of};
 ghost use Rattle.schedules.specs.Closest.{Closest};
-ghost use Rattle.schedules.specs.Nearing.{minute, moved, Moved, MovedFits};
+ghost use Rattle.schedules.specs.Nearing.{moved, Moved, MovedFits};
+ghost use Rattle.schedules.specs.Minutes.{minute};
 ghost use Rattle.schedules.specs.Tables.{events};
 
 use crate::calls::closest::timely::Timely;

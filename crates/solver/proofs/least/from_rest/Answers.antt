@@ -4,7 +4,7 @@ use Rattle.schedules.specs.Plans.{lags_into}
 use Rattle.solver.proofs.Cells.{times_sized}
 use Rattle.solver.proofs.Masking.{masked_stands}
 use Rattle.solver.proofs.Opening.{rounds_end, word_at_zero, word_leaves}
-use Rattle.solver.proofs.Resting.{none_stand, roots_loop_free}
+use Rattle.solver.proofs.Resting.{into_net, none_stand, roots_loop_free}
 use Rattle.solver.specs.Solving.{RestEnds}
 use Rattle.solver.specs.Words.{in_word}
 use Rattle.solver.proofs.least.from_rest.Goals as goal
@@ -22,7 +22,7 @@ go_rounds-requires-clause-standing g c =
 pub go_rounds-requires-clause-leaves : goal.go_rounds-requires-clause-leaves
 go_rounds-requires-clause-leaves g c =
     let net = g.met.N.Network.sound c.args.net.now in
-    word_leaves g.N.Network g.N.Kind.Mark c.args.net.now c.zero.result c.zero.ensures c.roots_of-roots.result c.fill_events.new.totals (rw c.events.ensures at c.fill_events.ensures.inside) (rw c.events.ensures at c.fill_events.ensures.outside) net.few
+    word_leaves g.N.Network g.N.Kind.Mark c.args.net.now c.zero.result c.zero.ensures c.roots_of-roots.result c.fill_events.new.totals (rw c.events.ensures at c.fill_events.ensures.inside) (rw c.events.ensures at c.fill_events.ensures.outside) _ (into_net _ _ _ net c.args.rest)
 
 pub returns-clause-ends : goal.returns-clause-ends
 returns-clause-ends g c =

@@ -1,7 +1,5 @@
 use Rattle.std.proofs.Common.{refl}
-use Rattle.rows.specs.Limits.{lag_limit}
 use Rattle.schedules.specs.Tables.{times}
-use Rattle.schedules.proofs.Inside.{firsts_inside}
 use Rattle.solver.proofs.Cells.{times_sized}
 use Rattle.solver.proofs.Going.{rounds_fit}
 use Rattle.solver.proofs.Repairing.{covered_repaired, covers_all, covers_unless_from}
@@ -10,8 +8,7 @@ use Rattle.solver.proofs.repair.repair.Goals as goal
 pub keeps_lag-requires-clause-fits : goal.keeps_lag-requires-clause-fits
 keeps_lag-requires-clause-fits g c =
     let net = g.met.N.Network.sound c.args.net.now in
-    let leaves = c.requires.leaves in
-    rounds_fit _ _ _ leaves (firsts_inside lag_limit leaves.bound _ _ _ net.limited leaves.within) 0 net.some
+    rounds_fit _ _ _ c.requires.leaves 0 net.some
 
 pub returns-then-keeps_lag-clause-ends : goal.returns-then-keeps_lag-clause-ends
 returns-then-keeps_lag-clause-ends g c =

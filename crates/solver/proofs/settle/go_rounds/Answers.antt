@@ -1,7 +1,5 @@
 use Rattle.std.proofs.Common.{◌≡◌, ◌+◌, ◌<◌, length, length-set, sym, ◌∙◌, rules, arith}
-use Rattle.rows.specs.Limits.{lag_limit}
 use Rattle.schedules.specs.Tables.{times}
-use Rattle.schedules.proofs.Inside.{firsts_inside}
 use Rattle.solver.proofs.Cells.{times_sized}
 use Rattle.solver.proofs.Finding.{back_leads, back_meets, written_loop}
 use Rattle.solver.proofs.Going.{going_fits, going_more, part_none, suspect_none, still_settled, walks_back}
@@ -10,10 +8,7 @@ use Rattle.solver.proofs.settle.go_rounds.Goals.{in_default-via-in-None-1, in_de
 
 pub go_round-changed-requires-clause-fits : goal.go_round-changed-requires-clause-fits
 go_round-changed-requires-clause-fits g c =
-    let net = g.met.N.Network.sound c.args.net.now in
-    let leaves = c.requires.leaves in
-    let row = g.N.Kind.Mark.row in
-    going_fits _ _ _ leaves (times row c.loop-done.work.totals.now) c.loop-done.done (firsts_inside lag_limit leaves.bound _ _ _ net.limited leaves.within) c.loop-done.invariant.4 c.loop-done.invariant.0.alike
+    going_fits _ _ _ c.requires.leaves (times g.N.Kind.Mark.row c.loop-done.work.totals.now) c.loop-done.done c.loop-done.invariant.4 c.loop-done.invariant.0.alike
 
 pub returns-then-changed-eq0-clause-ended : goal.returns-then-changed-eq0-clause-ended
 returns-then-changed-eq0-clause-ended g c =

@@ -2,7 +2,7 @@ use Rattle.std.proofs.Common.{rules, ◌≡◌, ℕ, ◌+◌, ◌*◌, ℤ, ◌-
 use Rattle.std.proofs.lemmas.Int.{to_z-of_z}
 use Rattle.schedules.specs.Tables.{finish}
 use Rattle.schedules.specs.Folds.{finish_of}
-use Rattle.schedules.specs.Nearing.{minute}
+use Rattle.schedules.specs.Minutes.{minute}
 use Rattle.plan.specs.Passing.{lags_of}
 use Rattle.plan.specs.Timed.{due_of, best_of}
 use Rattle.plan.proofs.Readying.{inside}

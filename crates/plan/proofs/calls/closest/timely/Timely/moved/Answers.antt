@@ -4,7 +4,7 @@ use Rattle.std.specs.Int.{saturate_signed}
 use Rattle.std.specs.Option.{option_map}
 use Rattle.schedules.specs.Tables.{start}
 use Rattle.marks.specs.Meaning.{TotalMade}
-use Rattle.schedules.specs.Nearing.{minute}
+use Rattle.schedules.specs.Minutes.{minute}
 use Rattle.plan.specs.Timed.{best_of}
 use Rattle.plan.proofs.Moving.{Within-fits, not_saturated, made}
 use Rattle.plan.proofs.calls.closest.timely.Timely.moved.Goals as goal
