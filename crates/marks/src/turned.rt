@@ -86,6 +86,8 @@ impl<M: Mark> Mark for Turned<M> {
         self.inner.add(lag).map(|inner| Turned { inner })
     }
 
+    // inlined for the sake of the inner order
+    #[inline(always)]
     #[tactic(auto, using(crate::proofs::Turning::turning))]
     fn order(self, other: Turned<M>) -> Ordering {
         other.inner.order(self.inner)

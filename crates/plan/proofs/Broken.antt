@@ -41,7 +41,7 @@ module _ (L : Lags) (x : Totals) (v u : ℕ) where
       go Greater h = (λ f. absurd (false≢true f), λ b. absurd (before_asym s t h (before b)))
 
 -- an earlier place lies in an earlier row, or further left in the same
-earlier_place : (m v u t s : ℕ) → u < m → s < m → place m v u < place m t s → (v < t) ⊎ ((v ≡ t) × (u < s))
+pub earlier_place : (m v u t s : ℕ) → u < m → s < m → place m v u < place m t s → (v < t) ⊎ ((v ≡ t) × (u < s))
 earlier_place m v u t s h k l = go (cases_lt v t) (cases_lt t v)
   where
     go : (v < t) ⊎ (t ≤ v) → (t < v) ⊎ (v ≤ t) → (v < t) ⊎ ((v ≡ t) × (u < s))

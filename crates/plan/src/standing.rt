@@ -36,7 +36,7 @@ fn last_of<L: Copy>(
 }
 
 // The word of so many places that lie a step apart, from the first on.
-fn word_of<L: Copy>(places: &[Option<L>], count: usize, first: usize, step: usize) -> u64
+pub(crate) fn word_of<L: Copy>(places: &[Option<L>], count: usize, first: usize, step: usize) -> u64
     requires few { count ≤ most_events }
     requires inside { (k : ℕ) → k < count → first + k * step < length places.now }
     ensures { Held places.now count first step result }

@@ -1,10 +1,11 @@
 // A table of lags seen as a network.
-ghost use Rattle.std.specs.Prelude.{◌≡◌};
+ghost use Rattle.std.specs.Prelude.{◌≡◌, ◌<◌};
 ghost use Rattle.plan.specs.Passing.{lags_of};
 ghost use Rattle.schedules.specs.Plans.{reversed};
 ghost use Rattle.solver.proofs.Nets.{table_net, reversed_net};
+ghost use Rattle.solver.specs.Words.{StandsFrom};
 
-use crate::standing::words_of;
+use crate::standing::{word_of, words_of};
 use crate::table::Table;
 use marks::kind::Mark;
 use marks::turned::Turned;
@@ -14,6 +15,16 @@ use solver::network::{Network, Standing};
 #[derive(Clone, Copy)]
 pub(crate) struct Forward<'a, K: Mark> {
     pub(crate) table: Table<'a, K>,
+}
+
+impl<'a, K: Mark> Forward<'a, K> {
+    // The word of the events to which a lag leads from an event.
+    pub(crate) fn stand_from(&self, event: usize) -> u64
+        requires { event < self.now.table.count }
+        ensures { StandsFrom self.now.table.count (lags_of self.now.table) event result }
+    {
+        word_of(self.table.lags, self.table.count, event, self.table.count)
+    }
 }
 
 impl<'a, K: Mark> Network for Forward<'a, K> {

@@ -44,6 +44,10 @@ StandsFrom m L u word =
 abbrev pub Stands : ℕ → Lags → List ℕ → Type 0
 Stands m L words = (u : ℕ) → u < m → StandsFrom m L u (slice_index words u)
 
+-- So does each word that is answered for one of them: `answers u word` where the word may be.
+abbrev pub AnswersStanding : ℕ → Lags → (ℕ → ℕ → Type 0) → Type 0
+AnswersStanding m L answers = (u word : ℕ) → u < m → answers u word → StandsFrom m L u word
+
 -- A lag to v from u is noted in the words: the word of u gets v, and the others are as they were.
 pub record Noted (words : List ℕ) (v u : ℕ) (after : List ℕ) : Type 0 where
   pub word : ℕ

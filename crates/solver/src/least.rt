@@ -7,6 +7,7 @@ ghost use Rattle.solver.specs.Working.{HasRoom, SameRows};
 
 use crate::network::{Network, Standing};
 use crate::reach::{reach, roots_of};
+use crate::rounds::Sources;
 use crate::settle::go_rounds;
 use crate::subnetwork::{Subnetwork, leads_on, mask};
 use crate::words::{first_events, has, with_event, without};
@@ -33,6 +34,7 @@ fn from_opening<N: Network>(
     net: &N,
     standing: &Standing,
     work: &mut Work<'_, N::Kind>,
+    sources: &mut Sources,
     loop_row: &mut [Step],
 ) -> Option<usize>
     requires standing { Stands (N.Network.size net.now) (N.Network.weight net.now) standing.now }
@@ -48,7 +50,10 @@ fn from_opening<N: Network>(
     // of fixed size, since there is no heap
     let mut came = [0; MOST_EVENTS];
     // every total comes from the opening, so that one of its own closes a loop
-    go_rounds(net, standing, work, &mut came, opening, opening, loop_row).err()
+    go_rounds(
+        net, standing, work, sources, &mut came, opening, opening, loop_row,
+    )
+    .err()
 }
 
 // Rounds from zero over the lags that lead to events of a word: nothing once they settle; or the
@@ -57,6 +62,7 @@ fn from_rest<N: Network>(
     net: &N,
     standing: &Standing,
     work: &mut Work<'_, N::Kind>,
+    sources: &mut Sources,
     rest: u64,
     loop_row: &mut [Step],
 ) -> Option<usize>
@@ -79,7 +85,10 @@ fn from_rest<N: Network>(
     let roots = roots_of(&net, &standing, rest);
     fill_events(net.events(), work.totals, roots, N::Kind::zero());
     let mut came = [0; MOST_EVENTS];
-    go_rounds(&net, &standing, work, &mut came, roots, 0, loop_row).err()
+    go_rounds(
+        &net, &standing, work, sources, &mut came, roots, 0, loop_row,
+    )
+    .err()
 }
 
 /// Puts the least time of every event into `work.totals`, nothing where the event is free. Answers
@@ -102,10 +111,12 @@ pub fn find_least<N: Network>(
     let standing = net.stand();
     let reached = with_event(reach(net, &standing, 0), 0);
     let rest = without(first_events(net.events()), reached);
-    if let Some(len) = from_rest(net, &standing, work, rest, loop_row) {
+    // of fixed size, since there is no heap
+    let mut sources = [[0; MOST_EVENTS]; MOST_EVENTS];
+    if let Some(len) = from_rest(net, &standing, work, &mut sources, rest, loop_row) {
         return Some(len);
     }
-    from_opening(net, &standing, work, loop_row)
+    from_opening(net, &standing, work, &mut sources, loop_row)
 }
 
 /// Puts the least time of every event into `work.totals`, nothing where the event is free. The
@@ -117,8 +128,9 @@ pub fn settle<N: Network>(net: &N, work: &mut Work<'_, N::Kind>)
     ensures rows { SameRows work.new work.old }
 {
     let standing = net.stand();
+    let mut sources = [[0; MOST_EVENTS]; MOST_EVENTS];
     let mut unused = [0; MOST_EVENTS];
-    match from_opening(net, &standing, work, &mut unused) {
+    match from_opening(net, &standing, work, &mut sources, &mut unused) {
         None => (),
         Some(_) => unreachable!(),
     }

@@ -1,6 +1,6 @@
 // Which events a chain of lags reaches, over the words of the lags that stand.
-ghost use Rattle.std.specs.Prelude.{◌<◌};
-ghost use Rattle.solver.specs.Words.{Among, ChainsFrom, ChainsOver, RootsOf, Stands};
+ghost use Rattle.std.specs.Prelude.{ℕ, ◌<◌};
+ghost use Rattle.solver.specs.Words.{Among, AnswersStanding, ChainsFrom, ChainsOver, RootsOf, Stands};
 
 use crate::network::{Network, Standing};
 use crate::words::{End, both, either, split, split_from, with_event, without};
@@ -11,20 +11,34 @@ pub fn reach<N: Network>(net: &N, standing: &Standing, event: usize) -> u64
     requires event { event < N.Network.size net.now }
     ensures { ChainsFrom (N.Network.size net.now) (N.Network.weight net.now) event result }
 {
-    reach_over(net, standing, event, u64::MAX)
+    reach_by(net, |from| standing[from], event)
+}
+
+/// The same, by a closure in place of the words: it answers the word of the events to which a lag
+/// leads from an event, and is asked for the event itself and for each that is reached, once.
+pub fn reach_by<N: Network, W: Fn(usize) -> u64>(net: &N, word_of: W, event: usize) -> u64
+    requires callable { (u : ℕ) → u < N.Network.size net.now → W.pre word_of u }
+    requires standing { AnswersStanding (N.Network.size net.now) (N.Network.weight net.now)
+        (W.post word_of) }
+    requires event { event < N.Network.size net.now }
+    ensures { ChainsFrom (N.Network.size net.now) (N.Network.weight net.now) event result }
+{
+    reach_over(net, word_of, event, u64::MAX)
 }
 
 // The events that a chain of lags from an event reaches over events of a word.
-fn reach_over<N: Network>(net: &N, standing: &Standing, event: usize, over: u64) -> u64
-    requires standing { Stands (N.Network.size net.now) (N.Network.weight net.now) standing.now }
+fn reach_over<N: Network, W: Fn(usize) -> u64>(net: &N, word_of: W, event: usize, over: u64) -> u64
+    requires callable { (u : ℕ) → u < N.Network.size net.now → W.pre word_of u }
+    requires standing { AnswersStanding (N.Network.size net.now) (N.Network.weight net.now)
+        (W.post word_of) }
     requires event { event < N.Network.size net.now }
     ensures { ChainsOver (N.Network.size net.now) (N.Network.weight net.now) over event result }
 {
-    let mut reached = standing[event];
+    let mut reached = word_of(event);
     let mut visited = with_event(0, event);
     while let Some((from, _)) = split(without(both(reached, over), visited)) {
         visited = with_event(visited, from);
-        reached = either(reached, standing[from]);
+        reached = either(reached, word_of(from));
     }
     reached
 }
@@ -41,7 +55,7 @@ fn first_roots<N: Network>(net: &N, standing: &Standing, word: u64, end: End) ->
     let mut left = word;
     while let Some((event, others)) = split_from(end, left) {
         // what was seen before leads to nothing new
-        let reached = reach_over(net, standing, event, !seen);
+        let reached = reach_over(net, |from| standing[from], event, !seen);
         roots = with_event(roots, event);
         seen = with_event(either(seen, reached), event);
         left = without(others, seen);

@@ -49,10 +49,22 @@ fn raise_from<N: Network>(
         work.old.totals.now work.new.totals.now loop_row.old loop_row.new result }
     ensures rows { SameRows work.new work.old }
 {
+    // of fixed size, since there is no heap
+    let mut sources = [[0; MOST_EVENTS]; MOST_EVENTS];
     let mut came = [0; MOST_EVENTS];
     let asking = with_event(0, event);
     // what rises, rises along lags from the event, so that its own rise closes a loop
-    go_rounds(net, standing, work, &mut came, asking, asking, loop_row).err()
+    go_rounds(
+        net,
+        standing,
+        work,
+        &mut sources,
+        &mut came,
+        asking,
+        asking,
+        loop_row,
+    )
+    .err()
 }
 
 /// Repairs times. `work.totals` has times that keep every lag but the one to event `to` from event

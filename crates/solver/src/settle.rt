@@ -6,7 +6,7 @@ ghost use Rattle.solver.specs.Words.{EventIn, KnownEvents, Stands};
 ghost use Rattle.solver.specs.Working.{HasRoom, SameRows};
 
 use crate::network::{Network, Standing};
-use crate::rounds::go_round;
+use crate::rounds::{Sources, go_round};
 use crate::walk::write_loop;
 use crate::words::{both, split, with_event};
 use crate::work::{Step, Work, copy_totals};
@@ -32,11 +32,13 @@ fn suspect(count: usize, rounds: usize, changed: u64, watched: u64) -> Option<us
 // Rounds from the totals of the row, of which only those of the events of a word ask more than the
 // others have: how many it took until the next one changes nothing; or the length of a loop, in the
 // first places of the loop row. The place in `came` of each event whose total is not the first has
-// the event that it came from.
+// the event that it came from. What `sources` has at first, and what is left there, does not
+// matter.
 pub(crate) fn go_rounds<N: Network>(
     net: &N,
     standing: &Standing,
     work: &mut Work<'_, N::Kind>,
+    sources: &mut Sources,
     came: &mut [u8],
     asking: u64,
     watched: u64,
@@ -56,8 +58,6 @@ pub(crate) fn go_rounds<N: Network>(
     let totals = &mut *work.totals;
     let next = &mut *work.next;
     copy_totals(count, totals, next);
-    // of fixed size, since there is no heap
-    let mut sources = [[0; MOST_EVENTS]; MOST_EVENTS];
     let mut changed = asking;
     for done in 0..count {
         changed = go_round(net, standing, work, &mut sources[done], came, changed);
@@ -65,7 +65,7 @@ pub(crate) fn go_rounds<N: Network>(
             return Ok(done);
         }
         if let Some(event) = suspect(count, done + 1, changed, watched)
-            && let Some(len) = write_loop(count, done + 1, &sources, event, loop_row)
+            && let Some(len) = write_loop(count, done + 1, sources, event, loop_row)
         {
             return Err(len);
         }
@@ -127,5 +127,7 @@ pub fn settle_from<N: Network>(
 {
     let totals = &mut *work.totals;
     let asking = known_events(net.events(), totals);
-    go_rounds(net, standing, work, came, asking, 0, loop_row)
+    // of fixed size, since there is no heap
+    let mut sources = [[0; MOST_EVENTS]; MOST_EVENTS];
+    go_rounds(net, standing, work, &mut sources, came, asking, 0, loop_row)
 }

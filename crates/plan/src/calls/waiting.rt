@@ -7,8 +7,7 @@ use crate::fault::PlanFault;
 use crate::table::Place;
 use crate::views::Forward;
 use marks::kind::Mark;
-use solver::network::Network;
-use solver::reach::reach;
+use solver::reach::reach_by;
 
 /// Answers the other events that a chain of lags from the event reaches, bit v for event v, and how
 /// many they are.
@@ -24,7 +23,8 @@ pub fn waiting<K: Mark>(
     let table = read_table::<K>(stages, table, &[])?;
     check_event(stages, event)?;
     let net = Forward { table };
-    let standing = net.stand();
-    let others = reach(&net, &standing, event) & !(1 << event);
+    // a word when it is asked for: few events may wait, and all words are a walk over the table
+    let reached = reach_by(&net, |from| net.stand_from(from), event);
+    let others = reached & !(1 << event);
     Ok((others, others.count_ones()))
 }

@@ -1,4 +1,4 @@
-use Rattle.std.proofs.Common.{◌<◌, arith}
+use Rattle.std.proofs.Common.{arith}
 use Rattle.solver.proofs.Bits.{added_more}
 use Rattle.solver.proofs.Visiting.{visiting_first, visiting_in, visiting_more, visiting_all}
 use Rattle.solver.proofs.reach.reach_over.Goals as goal
@@ -6,14 +6,13 @@ use Rattle.solver.proofs.reach.reach_over.Goals as goal
 pub loop-from-init : goal.loop-from-init
 loop-from-init g c =
     let net = g.met.N.Network.sound c.args.net.now in
-    visiting_first _ _ _ _ net.few _ _ c.requires.event (c.requires.standing c.args.event c.requires.event) c.with_event-visited.ensures
+    visiting_first _ _ _ _ net.few _ _ c.requires.event (c.requires.standing c.args.event _ c.requires.event c.word_of-reached.ensures) c.with_event-visited.ensures
 
-pub bounds-standing-from : goal.bounds-standing-from
-bounds-standing-from g c =
+pub word_of-requires : goal.word_of-requires
+word_of-requires g c =
     let net = g.met.N.Network.sound c.args.net.now in
     let split = c.in-Some.ensures in
-    let inside : c.in-Some.from < g.N.Network.size c.args.net.now = visiting_in _ _ _ _ net.few _ _ c.loop-from.invariant _ _ c.both.ensures c.without.ensures c.in-Some.from split.inside split.has in
-    omega (arith, net.few)
+    c.requires.callable c.in-Some.from (visiting_in _ _ _ _ net.few _ _ c.loop-from.invariant _ _ c.both.ensures c.without.ensures c.in-Some.from split.inside split.has)
 
 pub loop-from-smaller : goal.loop-from-smaller
 loop-from-smaller g c =
@@ -26,7 +25,7 @@ loop-from-preserved g c =
     let net = g.met.N.Network.sound c.args.net.now in
     let split = c.in-Some.ensures in
     let inside = visiting_in _ _ _ _ net.few _ _ c.loop-from.invariant _ _ c.both.ensures c.without.ensures c.in-Some.from split.inside split.has in
-    visiting_more _ _ _ _ net.few _ _ c.loop-from.invariant _ _ c.both.ensures c.without.ensures c.in-Some.from split.inside split.has _ _ _ c.with_event-visited-in-Some.ensures (c.requires.standing c.in-Some.from inside) c.either-reached.ensures
+    visiting_more _ _ _ _ net.few _ _ c.loop-from.invariant _ _ c.both.ensures c.without.ensures c.in-Some.from split.inside split.has _ _ _ c.with_event-visited-in-Some.ensures (c.requires.standing c.in-Some.from _ inside c.word_of.ensures) c.either-reached.ensures
 
 pub returns : goal.returns
 returns g c =

@@ -1,6 +1,6 @@
 use Rattle.std.proofs.lemmas.Nat.Bits.{bit_at_ones}
 use Rattle.solver.proofs.Visiting.{chains_over_all}
-use Rattle.solver.proofs.reach.reach.Goals as goal
+use Rattle.solver.proofs.reach.reach_by.Goals as goal
 
 pub returns : goal.returns
 returns g c =
