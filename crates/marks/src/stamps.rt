@@ -109,8 +109,8 @@ impl Mark for Stamp {
         )
     }
 
-    // A match, and inlined: by `then_with`, out of line, a check of a full plan took 1.4 times as
-    // long.
+    // A match, and inlined: by `then_with`, out of line, a check of a full plan took 1.2 times as
+    // long, and of one in turned stamps 1.4 times.
     #[inline(always)]
     fn order(self, other: Stamp) -> Ordering {
         match order_parts(self.minute, other.minute) {

@@ -9,8 +9,8 @@ use crate::fault::PlanFault;
 use crate::table::{Place, put_lag};
 use marks::kind::Mark;
 
-// Empties every place of a lag to or from an event, of so many events. By its pairs, which are two
-// for each event: a walk over the whole table would look at the square of so many places.
+// Empties every place of a lag to or from an event, of so many events. By its pairs, two for each
+// event: the whole table has the square of so many places.
 fn clear_event<K: Mark>(count: usize, table: &mut [Place<K>], event: usize)
     requires count { count ≤ most_events }
     requires event { event < count }
